@@ -5,6 +5,7 @@ use Rattle.bk_body.specs.Slots.{Slot, shown_of}
 use Rattle.bk_bytes.specs.Field.{AreBytes}
 use Rattle.bk_device.specs.Calls.{ChangesNothing, contents}
 use Rattle.bk_device.specs.Disk.{Disk}
+use Rattle.bk_device.specs.declared.trouble.Trouble.{Trouble}
 use Rattle.bk_gate.specs.Gate.{Kept}
 use Rattle.bk_machine.specs.World.{World}
 use Rattle.bk_machine.specs.statements.Restore.{read_slot, slots_of}
@@ -15,7 +16,6 @@ use Rattle.bk_volume.specs.declared.error.SetError.{SetError}
 use Rattle.bk_volume.specs.declared.error.SetError.TheVariants as set
 use Rattle.bk_world.specs.declared.rule.Rule.{Rule}
 use Rattle.bk_world.specs.declared.rule.Rule.TheVariants.{NoSuchSet, NotMedia, SetDamaged}
-use Rattle.bk_archive.specs.declared.error.ArchiveError.{ArchiveError}
 use Rattle.bk_archive.specs.declared.opening.OpenedSet.{OpenedSet}
 use Rattle.bk_archive.specs.Media.{KeepsMedia}
 use Rattle.bk_archive.specs.MediumLaws.{are-kept}
@@ -57,14 +57,14 @@ if-ok (Ok a) leads holds = leads a holds
 if-ok (Err e) leads holds = tt
 
 -- what is answered of the file under a name is of the medium at its path
-pub found-at : (position : ℕ) (a b : Disk) (path name : List ℕ) (result : Result (Result OpenedSet Rule) ArchiveError) → name ≡ medium_file path → ChangesNothing a b
+pub found-at : (position : ℕ) (a b : Disk) (path name : List ℕ) (result : Result (Result OpenedSet Rule) Trouble) → name ≡ medium_file path → ChangesNothing a b
     → IfOk result (λ opened. IsFound position (b.files name) (set_of opened)) → IfOk result (λ opened. IsFound position (a.files (medium_file path)) (set_of opened))
 found-at position a b path name result is_name call answer =
     let Named : List ℕ → Type 0 = λ n. IfOk result (λ opened. IsFound position (a.files n) (set_of opened)) in
     let Read : Option (List ℕ) → Type 0 = λ f. IfOk result (λ opened. IsFound position f (set_of opened)) in
     subst Named is_name (subst Read (call.files name) answer)
 
-pub found-world : (position : ℕ) (w : World) (a : Disk) (path : List ℕ) (result : Result (Result OpenedSet Rule) ArchiveError) → AreBytes path → KeepsMedia w None a.files
+pub found-world : (position : ℕ) (w : World) (a : Disk) (path : List ℕ) (result : Result (Result OpenedSet Rule) Trouble) → AreBytes path → KeepsMedia w None a.files
     → IfOk result (λ opened. IsFound position (a.files (medium_file path)) (set_of opened)) → IfOk result (λ opened. AnswersSet w path position (a.files (medium_file path)) (set_of opened))
 found-world position w a path result bytes media answer =
     if-ok result (λ opened. set-answers w path position (a.files (medium_file path)) (set_of opened) (media.read path bytes) (are-kept w None a.files path media bytes)) answer

@@ -3,14 +3,8 @@ use Rattle.bk_volume.specs.declared.error.LoadError.{LoadError}
 use Rattle.bk_volume.specs.declared.error.LoadError.TheVariants as load
 use Rattle.bk_volume.specs.declared.error.WriteError.{WriteError}
 use Rattle.bk_volume.specs.declared.error.WriteError.TheVariants as write
-use Rattle.bk_archive.specs.declared.error.ArchiveError.{ArchiveError}
-use Rattle.bk_archive.specs.declared.error.ArchiveError.TheVariants as archive
 use Rattle.bk_archive.specs.declared.error.SealError.{SealError}
 use Rattle.bk_archive.specs.declared.error.SealError.TheVariants as sealing
-
-abbrev pub made_error : WriteError → ArchiveError
-made_error write.Fault = archive.Fault
-made_error write.NoMemory = archive.NoMemory
 
 abbrev pub loaded_error : LoadError → SealError
 loaded_error load.Missing = sealing.NoMedium

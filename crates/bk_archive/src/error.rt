@@ -1,24 +1,12 @@
-//! Why a call on media failed.
+//! Why a set couldn't be sealed.
 ghost use Rattle.std.specs.Prelude.{◌≡◌};
 ghost use Rattle.bk_archive.specs.Errors as errors;
-ghost use Rattle.bk_archive.specs.declared.error.ArchiveError.TheVariants as archive;
 ghost use Rattle.bk_archive.specs.declared.error.SealError.TheVariants as sealing;
 
 use bk_device::Failed;
 use bk_volume::{LoadError, WriteError};
 use std::alloc::AllocError;
 use thiserror::Error;
-
-/// Why a medium couldn't be made, finished or read.
-#[derive(Clone, Copy, Debug, PartialEq, Eq, Error)]
-pub enum ArchiveError {
-    /// The device failed.
-    #[error("the device has failed")]
-    Fault,
-    /// There was no memory.
-    #[error("out of memory")]
-    NoMemory,
-}
 
 /// Why a set couldn't be sealed.
 #[derive(Clone, Copy, Debug, PartialEq, Eq, Error)]
@@ -32,33 +20,6 @@ pub enum SealError {
     /// There was no memory.
     #[error("out of memory")]
     NoMemory,
-}
-
-impl From<Failed> for ArchiveError {
-    ghost from_gives = { λ _ e. e ≡ archive.Fault };
-
-    fn from(_: Failed) -> Self {
-        ArchiveError::Fault
-    }
-}
-
-impl From<AllocError> for ArchiveError {
-    ghost from_gives = { λ _ e. e ≡ archive.NoMemory };
-
-    fn from(_: AllocError) -> Self {
-        ArchiveError::NoMemory
-    }
-}
-
-impl From<WriteError> for ArchiveError {
-    ghost from_gives = { λ error e. e ≡ errors.made_error error };
-
-    fn from(error: WriteError) -> Self {
-        match error {
-            WriteError::Fault => ArchiveError::Fault,
-            WriteError::NoMemory => ArchiveError::NoMemory,
-        }
-    }
 }
 
 impl From<Failed> for SealError {

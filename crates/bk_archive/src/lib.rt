@@ -11,7 +11,7 @@ mod opening;
 mod room;
 mod sealing;
 
-pub use error::{ArchiveError, SealError};
+pub use error::SealError;
 pub use finishing::finish_medium;
 pub use laws::{acts_keep_media, events_keep_media, media_stay};
 pub use listing::list_sets;

@@ -1,7 +1,9 @@
 //! The headers of the sets of a medium.
-ghost use Rattle.std.specs.Prelude.{◌≡◌, ◌++◌, ◌∷◌, [], None, Some, false, IfOk, OnOk, IsErrOf};
+ghost use Rattle.std.specs.Prelude.{◌≡◌, ◌++◌, ◌∷◌, [], None, Some, false, IfErr, IfOk, OnOk, IsErrOf};
 ghost use Rattle.bk_device.specs.Calls.{ChangesNothing};
 ghost use Rattle.bk_device.specs.Counts.{HasCause};
+ghost use Rattle.bk_device.specs.Troubles.{IsPassing};
+ghost use Rattle.bk_device.specs.declared.trouble.Trouble.TheVariants.{Fault};
 ghost use Rattle.bk_machine.specs.World.{World};
 ghost use Rattle.bk_machine.specs.statements.Query.{headers_of};
 ghost use Rattle.bk_volume.specs.Media.{ShowsMedium};
@@ -10,12 +12,10 @@ ghost use Rattle.bk_world.specs.Medium.{medium_at};
 ghost use Rattle.bk_archive.specs.Listed.{Lists, header_of, one_header};
 ghost use Rattle.bk_archive.specs.Media.{KeepsMedia};
 ghost use Rattle.bk_archive.specs.Opened.{set_of};
-ghost use Rattle.bk_archive.specs.declared.error.ArchiveError.TheVariants.{Fault};
 
-use crate::error::ArchiveError;
 use crate::loading::load_medium;
 use crate::opening::{OpenedSet, open_at, open_set};
-use bk_device::Device;
+use bk_device::{Device, Trouble};
 use bk_ids::Sequence;
 use bk_volume::{Medium, StoredSet};
 use bk_world::{Header, Rule};
@@ -38,11 +38,12 @@ fn list_on<D: Device>(
     alloc: Global,
     dev: &mut D,
     medium: &Medium,
-) -> Result<Result<Sequence<(u64, Header)>, Rule>, ArchiveError>
+) -> Result<Result<Sequence<(u64, Header)>, Rule>, Trouble>
     requires fit { medium.now.failed ≡ false }
     requires shows { D.tells → ShowsMedium (D.disk dev.old) medium.now }
     ensures sets { D.tells → IfOk result (Lists ((D.disk dev.old).files medium.now.name)) }
     ensures effect { D.tells → ChangesNothing (D.disk dev.old) (D.disk dev.new) }
+    ensures trouble { IfErr result IsPassing }
     ensures cause { HasCause D.disk_faults D.tell_faults dev.old dev.new (IsErrOf result Fault) }
 {
     let mut sets = Vec::new(alloc);
@@ -61,9 +62,10 @@ fn list_all<D: Device>(
     alloc: Global,
     dev: &mut D,
     path: &str,
-) -> Result<Result<Sequence<(u64, Header)>, Rule>, ArchiveError>
+) -> Result<Result<Sequence<(u64, Header)>, Rule>, Trouble>
     ensures sets { D.tells → IfOk result (Lists ((D.disk dev.old).files (medium_file path.now))) }
     ensures effect { D.tells → ChangesNothing (D.disk dev.old) (D.disk dev.new) }
+    ensures trouble { IfErr result IsPassing }
     ensures cause { HasCause D.disk_faults D.tell_faults dev.old dev.new (IsErrOf result Fault) }
 {
     match load_medium(alloc, dev, path) {
@@ -96,9 +98,10 @@ fn list_one<D: Device>(
     dev: &mut D,
     path: &str,
     position: u64,
-) -> Result<Result<Sequence<(u64, Header)>, Rule>, ArchiveError>
+) -> Result<Result<Sequence<(u64, Header)>, Rule>, Trouble>
     ensures sets { D.tells → (w : World) → KeepsMedia w None (D.disk dev.old).files → IfOk result (λ sets. headers_of (medium_at w.media path.now) (Some position) ≡ sets) }
     ensures effect { D.tells → ChangesNothing (D.disk dev.old) (D.disk dev.new) }
+    ensures trouble { IfErr result IsPassing }
     ensures cause { HasCause D.disk_faults D.tell_faults dev.old dev.new (IsErrOf result Fault) }
 {
     let opened = open_set(alloc, dev, path, position)?;
@@ -114,9 +117,10 @@ pub fn list_sets<D: Device>(
     dev: &mut D,
     path: &str,
     file: Option<u64>,
-) -> Result<Result<Sequence<(u64, Header)>, Rule>, ArchiveError>
+) -> Result<Result<Sequence<(u64, Header)>, Rule>, Trouble>
     ensures sets { D.tells → (w : World) → KeepsMedia w None (D.disk dev.old).files → IfOk result (λ sets. headers_of (medium_at w.media path.now) file ≡ sets) }
     ensures effect { D.tells → ChangesNothing (D.disk dev.old) (D.disk dev.new) }
+    ensures trouble { IfErr result IsPassing }
     ensures cause { HasCause D.disk_faults D.tell_faults dev.old dev.new (IsErrOf result Fault) }
 {
     match file {

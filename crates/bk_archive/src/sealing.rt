@@ -22,8 +22,7 @@ use std::alloc::Global;
 
 /// Seals the set whose extents and log were added, behind those on the medium at a path, with this header and these tables.
 /// What a read shows of the medium is made durable first: a process that was stopped may have left writes there that are
-/// still pending. A crash leaves the sets that there were, or this one too. Whatever was added, of the files only the medium's is
-/// touched.
+/// still pending. A crash leaves the sets that there were, or this one too. Of the files only the medium's is touched.
 ///
 /// `NoMedium` is answered only where there is no medium at the path.
 pub fn seal_set<D: Device>(

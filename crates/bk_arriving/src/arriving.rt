@@ -98,11 +98,10 @@ fn begin_with_set<D: Device>(
     }
 }
 
-/// Makes the database of this number anew from a full set that was opened on a medium, in place of what was there: its log is that of the set, its pages are those of the set's extents, and header pages
-/// are fresh; then the control record is put, with the number of the latest checkpoint, what is known of it, and these bytes, at most 12,288, as the note of the layer above. No more than one extent and
-/// the log are held in memory. What is pending in the log is undone when the database is opened.
+/// Makes the database of this number anew from an opened full set: its log and the set's extents, with fresh header pages; then the control record with the number of the latest checkpoint, what is known
+/// of it, and at most 12,288 bytes as the note above. Holds an extent and the log in memory.
 ///
-/// `Unfit` is answered only where the set's extents aren't the data extents of these data files, each once and in their order, and no database is made of such a set. After an error the files may hold anything. The medium's file isn't touched.
+/// `Unfit` is answered only where the set's extents aren't those of these data files in their order. After an error the files may hold anything.
 pub fn arrive<D: Device>(
     alloc: Global,
     dev: &mut D,

@@ -36,8 +36,7 @@ fn push_header<D: Device>(dev: &mut D, arriving: &mut Arriving) -> Result<(), Fa
     if !is_due(arriving) {
         return Ok(());
     }
-    push_fresh_extent(dev, arriving)?;
-    Ok(())
+    push_fresh_extent(dev, arriving)
 }
 
 /// Adds the header pages that come next as fresh pages, those of data files without a data extent too.

@@ -91,8 +91,7 @@ fn push_next<D: Device>(
     ensures cause { HasCause D.disk_faults D.tell_faults dev.old dev.new (IsErrOf result ArriveError.Fault) }
 {
     push_headers(dev, arriving)?;
-    push_stored(dev, medium, set, i, buf, arriving)?;
-    Ok(())
+    push_stored(dev, medium, set, i, buf, arriving)
 }
 
 // Adds all extents of a set, each behind the header pages that come before it.

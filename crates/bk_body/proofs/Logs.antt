@@ -7,12 +7,11 @@ use Rattle.bk_ids.specs.declared.record.Rec.{Rec}
 use Rattle.bk_record.specs.Log.{Left, Reads, IsBad, IsLog}
 use Rattle.bk_record.specs.RecordsLaws.{whole_is, some_bytes, log_behind, log_ends}
 use Rattle.bk_record.specs.Spelling.{spelling}
-use Rattle.bk_set.specs.Reading.{are_different, keep_tables}
 use Rattle.bk_world.specs.declared.database.TableSpec.{TableSpec}
 use Rattle.bk_world.specs.declared.header.Header.{Header}
 use Rattle.bk_body.specs.Conditions.{made_by, tables_made, with_table, joined}
 use Rattle.bk_body.specs.Laws.{joined_more}
-use Rattle.bk_body.specs.Reading.{keeps_deed, follow_on, keep_records}
+use Rattle.bk_body.specs.Reading.{are_different, keep_tables, keeps_deed, follow_on, keep_records}
 
 -- the test from a number on, with these tables so far
 abbrev pub rest_keeps : Header → ℕ → List TableSpec → List Rec → Bool

@@ -1,7 +1,9 @@
 -- Which bodies are a backup set.
-use Rattle.std.specs.Prelude.{◌≡◌, ◌⊎◌, ℕ, ◌+◌, ◌*◌, ◌/◌, ◌^◌, ◌<◌, ◌==◌, ◌&&◌, Bool, true, List, [], ◌∷◌, ◌++◌, length, None, nat_lt, nat_le, if◌then◌else◌}
+use Rattle.std.specs.Prelude.{◌≡◌, ◌≢◌, ◌⊎◌, ℕ, ◌+◌, ◌*◌, ◌/◌, ◌^◌, ◌<◌, ◌≤◌, ◌==◌, ◌&&◌, Bool, true, false, List, [], ◌∷◌, ◌++◌, length, None, nat_lt, nat_le, if◌then◌else◌}
 use Rattle.std.specs.List.{list_any, flat_map, AllByRecursion}
 use Rattle.std.specs.Str.{bytes_eq}
+use Rattle.bk_bytes.specs.Codec.{IsString}
+use Rattle.bk_ids.specs.Name.{same_name}
 use Rattle.bk_ids.specs.declared.record.Rec.{Rec}
 use Rattle.bk_ids.specs.declared.record.Body.{Body as Deed}
 use Rattle.bk_ids.specs.declared.record.Body.TheVariants.{Database, Table, Begin, Write, Commit, RollbackEnd, Compensation, Checkpoint, Stamp, Model, Bulk, Recovery}
@@ -11,8 +13,30 @@ use Rattle.bk_world.specs.declared.header.HeaderFile.{HeaderFile}
 use Rattle.bk_header.specs.Conditions.{IsHeader, IsTime, KeepsConditions}
 use Rattle.bk_page.specs.Page.{part, number_of_page, file_of, digest_field, page_digest}
 use Rattle.bk_record.specs.Log.{IsLog}
-use Rattle.bk_set.specs.Conditions.{IsTable, KeepTables}
 use Rattle.bk_body.specs.Body.{Extent, Body}
+
+-- ---- tables
+
+-- what a table's fields are
+pub record IsTable (table : TableSpec) : Type 0 where
+  pub number : table.number < 2 ^ 32
+  pub name : IsString 1 64 table.name
+  pub group : table.group < 2 ^ 8
+
+-- two tables have different numbers and different names
+abbrev pub Differ : TableSpec → TableSpec → Type 0
+Differ table other = (table.number ≢ other.number) × (same_name table.name other.name ≡ false)
+
+-- each table differs from all behind it
+abbrev pub AreDifferent : List TableSpec → Type 0
+AreDifferent [] = Unit {0}
+AreDifferent (table ∷ tables) = AllByRecursion (Differ table) tables × AreDifferent tables
+
+-- at most 64 different tables, each in one of so many filegroups
+pub record KeepTables (groups : ℕ) (tables : List TableSpec) : Type 0 where
+  pub few : length tables ≤ 64
+  pub different : AreDifferent tables
+  pub groups_there : AllByRecursion (λ table. table.group < groups) tables
 
 -- ---- extents
 

@@ -10,13 +10,11 @@ use Rattle.bk_bytes.specs.Field.{AreBytes}
 use Rattle.bk_header.specs.Conditions.{IsHeader}
 use Rattle.bk_header.specs.Laws.{header_keeps}
 use Rattle.bk_record.specs.Records.{AreRecords}
-use Rattle.bk_set.specs.Conditions.{IsTable}
-use Rattle.bk_set.specs.FormLaws.{log_form-IsCodec}
 use Rattle.bk_world.specs.declared.database.TableSpec.{TableSpec}
 use Rattle.bk_world.specs.declared.header.Header.{Header}
 use Rattle.bk_body.specs.Body.{Extent, Body}
-use Rattle.bk_body.specs.Conditions.{KeepsExtent, same_table, with_table, joined, tables_made, IsLogOf, IsBody, KeepsBody}
-use Rattle.bk_body.specs.FormLaws.{extent_form-IsCodec, front_form-IsCodec, front_form-spelling, front_fits, front_from, records_read}
+use Rattle.bk_body.specs.Conditions.{IsTable, KeepsExtent, same_table, with_table, joined, tables_made, IsLogOf, IsBody, KeepsBody}
+use Rattle.bk_body.specs.FormLaws.{log_form-IsCodec, extent_form-IsCodec, front_form-IsCodec, front_form-spelling, front_fits, front_from, records_read}
 use Rattle.bk_body.specs.Reading.{front_form, IsExtent, extent_form, keep_extents, keep_records, there_and, keep_log, keep_parts, body_from, body_form, body_of}
 use Rattle.bk_body.specs.Spelling.{body_bytes}
 use Rattle.bk_body.specs.TestLaws.{extents_true, extents_from, records_true, records_from}

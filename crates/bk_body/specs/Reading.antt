@@ -1,7 +1,8 @@
 -- How a body is read from bytes.
-use Rattle.std.specs.Prelude.{ℕ, zero, suc, ◌+◌, ◌*◌, ◌/◌, ◌^◌, ◌<◌, ◌≡◌, Bool, true, false, List, [], ◌∷◌, length, take, drop, Option, Some, None, nat_lt, nat_le, ◌==◌, ◌&&◌, ◌||◌, if◌then◌else◌}
+use Rattle.std.specs.Prelude.{ℕ, zero, suc, ◌+◌, ◌*◌, ◌/◌, ◌^◌, ◌<◌, ◌≡◌, Bool, true, false, List, [], ◌∷◌, length, take, drop, Option, Some, None, nat_lt, nat_le, ◌==◌, ◌&&◌, ◌||◌, not, if◌then◌else◌}
 use Rattle.std.specs.List.{list_all, range_with_len}
 use Rattle.std.specs.Str.{bytes_eq}
+use Rattle.bk_ids.specs.Name.{same_name}
 use Rattle.bk_ids.specs.declared.record.Rec.{Rec}
 use Rattle.bk_ids.specs.declared.record.ExtentId.{ExtentId}
 use Rattle.bk_ids.specs.declared.record.Body.{Body as Deed}
@@ -9,14 +10,32 @@ use Rattle.bk_ids.specs.declared.record.Body.TheVariants.{Database, Table, Begin
 use Rattle.bk_world.specs.declared.database.TableSpec.{TableSpec}
 use Rattle.bk_world.specs.declared.header.Header.{Header}
 use Rattle.bk_world.specs.declared.header.HeaderFile.{HeaderFile}
-use Rattle.bk_bytes.specs.Codec.{◌>>=◌, Codec, number, run, followed, converted, counted, times}
+use Rattle.bk_bytes.specs.Codec.{◌>>=◌, Codec, number, run, string, text_at, followed, converted, counted, times}
 use Rattle.bk_bytes.specs.Field.{number_of}
 use Rattle.bk_header.specs.Reading.{header_form}
 use Rattle.bk_page.specs.Page.{part, number_of_page, file_of, digest_field, page_digest}
 use Rattle.bk_record.specs.Reading.{record_form}
-use Rattle.bk_set.specs.Reading.{table_form, log_form, keep_tables}
+use Rattle.bk_record.specs.Records.{AreRecords, records_in}
 use Rattle.bk_body.specs.Body.{Extent, Body}
-use Rattle.bk_body.specs.Conditions.{has_extent, holds_extent, tables_made, joined, IsBody}
+use Rattle.bk_body.specs.Conditions.{IsTable, has_extent, holds_extent, tables_made, joined, IsBody}
+use Rattle.bk_body.specs.Spelling.{log_bytes}
+
+unfoldable pub table_form : Codec TableSpec
+table_form = converted (followed (number 4) (λ _. followed (string 1 64) (λ _. number 1)))
+    (λ x. Some (record { number = x.0; name = x.1.0; group = x.1.1 }))
+    (λ table. (table.number, (table.name, table.group)))
+    IsTable
+
+-- whole log records behind their length
+unfoldable pub log_at : List ℕ → Option (List ℕ × List ℕ)
+log_at bytes = do
+  log ← text_at 8 bytes
+  records ← records_in log.0
+  Some (records, log.1)
+
+-- whole log records behind their length
+abbrev pub log_form : Codec (List ℕ)
+log_form = record { spelling = log_bytes; Fits = λ log. (length log < 2 ^ 64) × AreRecords log; reading = log_at }
 
 -- the header, the tables, and the number of extents
 unfoldable pub front_form : Codec (Header × (List TableSpec × ℕ))
@@ -44,6 +63,17 @@ extents_in zero bytes = []
 extents_in (suc n) bytes = extent_in bytes ∷ extents_in n (drop 65542 bytes)
 
 -- ---- the conditions as tests
+
+abbrev pub differ : TableSpec → TableSpec → Bool
+differ table other = not (table.number == other.number) && not (same_name table.name other.name)
+
+abbrev pub are_different : List TableSpec → Bool
+are_different [] = true
+are_different (table ∷ tables) = list_all (differ table) tables && are_different tables
+
+abbrev pub keep_tables : ℕ → List TableSpec → Bool
+keep_tables groups tables =
+    nat_le (length tables) 64 && list_all (λ table. nat_lt table.group groups) tables && are_different tables
 
 abbrev pub is_page_of : ℕ → ℕ → List ℕ → Bool
 is_page_of file number page = file_of page == file && number_of_page page == number && bytes_eq (digest_field page) (page_digest page)

@@ -4,10 +4,17 @@ use Rattle.std.specs.List.{flat_map}
 use Rattle.bk_world.specs.declared.database.TableSpec.{TableSpec}
 use Rattle.bk_world.specs.declared.header.Header.{Header}
 use Rattle.bk_bytes.specs.Field.{bytes_of}
-use Rattle.bk_header.specs.Spelling.{spelling}
-use Rattle.bk_set.specs.Spelling.{table_bytes, log_bytes}
+use Rattle.bk_header.specs.Spelling.{text_bytes, spelling}
 use Rattle.bk_body.specs.Body.{Extent, Body}
 use Rattle.sha2.specs.Sha256.{sha256}
+
+-- a table: its number, its name, and its filegroup
+abbrev pub table_bytes : TableSpec → List ℕ
+table_bytes table = bytes_of 4 table.number ++ (text_bytes table.name ++ bytes_of 1 table.group)
+
+-- a log: its length in 8 bytes, and its bytes
+abbrev pub log_bytes : List ℕ → List ℕ
+log_bytes log = bytes_of 8 (length log) ++ log
 
 -- the front of a set: its header, the tables behind their number, and the number of extents
 unfoldable pub front_bytes : Header → List TableSpec → ℕ → List ℕ

@@ -1,32 +1,67 @@
 -- A body passes the tests exactly where it keeps the conditions.
 use Rattle.std.proofs.Common.{◌≡◌, ◌⊎◌, ℕ, zero, suc, ◌+◌, ◌*◌, ◌<◌, ◌≤◌, Bool, true, false, eqb, ltb, leb, List, [], ◌∷◌, length, get_or, refl, inl, inr, sym, subst, arith}
-use Rattle.std.specs.Prelude.{◌&&◌, ◌||◌}
+use Rattle.std.specs.Prelude.{◌&&◌, ◌||◌, not}
 use Rattle.std.specs.List.{list_all, range_with_len, AllByRecursion}
 use Rattle.std.specs.Str.{bytes_eq}
-use Rattle.std.proofs.lemmas.Bool.{lt-ltb, ltb-true, le-leb, leb-true, eqb-true, eq-eqb, and_parts, and_from}
+use Rattle.std.proofs.lemmas.Bool.{not-true, ne_eqb, lt-ltb, ltb-true, le-leb, leb-true, eqb-true, eq-eqb, and_parts, and_from}
 use Rattle.std.proofs.lemmas.List.FromFn.{length-range_with_len, get_or-range_with_len}
 use Rattle.std.proofs.lemmas.Slice.Eq.{bytes_eq-Decides}
+use Rattle.bk_ids.specs.Name.{same_name}
 use Rattle.bk_ids.specs.declared.record.Rec.{Rec}
 use Rattle.bk_ids.specs.declared.record.ExtentId.{ExtentId}
 use Rattle.bk_ids.specs.declared.record.Body.{Body as Deed}
 use Rattle.bk_ids.specs.declared.record.Body.TheVariants.{Database, Table, Begin, Write, Commit, RollbackEnd, Compensation, Checkpoint, Stamp, Model, Bulk, Recovery}
 use Rattle.bk_lemmas.specs.Lists.{all_at, all_tested}
 use Rattle.bk_page.specs.Page.{part, number_of_page, file_of, digest_field, page_digest}
-use Rattle.bk_set.specs.Conditions.{KeepTables}
-use Rattle.bk_set.specs.Laws.{parts_true, parts_from}
-use Rattle.bk_set.specs.Reading.{keep_tables}
 use Rattle.bk_world.specs.declared.database.TableSpec.{TableSpec}
 use Rattle.bk_world.specs.declared.header.Header.{Header}
 use Rattle.bk_world.specs.declared.header.HeaderFile.{HeaderFile}
-use Rattle.bk_world.specs.declared.header.SetKind.TheVariants.{Full}
 use Rattle.bk_header.specs.Conditions.{IsTime}
 use Rattle.bk_body.specs.Body.{Extent}
-use Rattle.bk_body.specs.Conditions.{has_extent, holds_extent, ComesBefore, ExtentsRise, IsPageOf, KeepsExtent, FollowOn, KeepsDeed, tables_made, joined, KeepsRecords}
-use Rattle.bk_body.specs.Reading.{IsExtent, is_page_of, are_pages, keeps_extent, is_from, keep_extents, is_time, keeps_deed, follow_on, keep_records}
+use Rattle.bk_body.specs.Conditions.{Differ, AreDifferent, KeepTables, has_extent, holds_extent, ComesBefore, ExtentsRise, IsPageOf, KeepsExtent, FollowOn, KeepsDeed, tables_made, joined, KeepsRecords}
+use Rattle.bk_body.specs.Reading.{differ, are_different, keep_tables, IsExtent, is_page_of, are_pages, keeps_extent, is_from, keep_extents, is_time, keeps_deed, follow_on, keep_records}
 
 all_from : {A : Type 0} (test : A → Bool) (P : A → Type 0) → ((x : A) → P x → test x ≡ true) → (xs : List A) → AllByRecursion P xs → list_all test xs ≡ true
 all_from test P is [] h = refl
 all_from test P is (x ∷ xs) h = and_from _ _ (is x h.0) (all_from test P is xs h.1)
+
+-- ---- tables
+
+differ_true : (table other : TableSpec) → differ table other ≡ true → Differ table other
+differ_true table other e =
+    let p = and_parts (not (eqb table.number other.number)) (not (same_name table.name other.name)) e in
+    let numbers : eqb table.number other.number ≡ false = not-true _ p.0 in
+    ((λ same. let equal : eqb table.number other.number ≡ true = eq-eqb _ _ same in cc), not-true _ p.1)
+
+differ_from : (table other : TableSpec) → Differ table other → differ table other ≡ true
+differ_from table other h =
+    let numbers : eqb table.number other.number ≡ false = ne_eqb _ _ h.0 in
+    let names : same_name table.name other.name ≡ false = h.1 in
+    rw (numbers, names) refl
+
+different_true : (tables : List TableSpec) → are_different tables ≡ true → AreDifferent tables
+different_true [] e = tt
+different_true (table ∷ tables) e =
+    let p = and_parts (list_all (differ table) tables) (are_different tables) e in
+    (all_tested (differ table) (Differ table) (differ_true table) tables p.0, different_true tables p.1)
+
+different_from : (tables : List TableSpec) → AreDifferent tables → are_different tables ≡ true
+different_from [] h = refl
+different_from (table ∷ tables) h = and_from _ _ (all_from (differ table) (Differ table) (differ_from table) tables h.0) (different_from tables h.1)
+
+tables_true : (groups : ℕ) (tables : List TableSpec) → keep_tables groups tables ≡ true → KeepTables groups tables
+tables_true groups tables e =
+    let p = and_parts (leb (length tables) 64 && list_all (λ table. ltb table.group groups) tables) (are_different tables) e in
+    let q = and_parts (leb (length tables) 64) (list_all (λ table. ltb table.group groups) tables) p.0 in
+    record {
+      few = leb-true _ _ q.0;
+      different = different_true tables p.1;
+      groups_there = all_tested (λ table. ltb table.group groups) (λ table. table.group < groups) (λ table t. ltb-true _ _ t) tables q.1;
+    }
+
+tables_from : (groups : ℕ) (tables : List TableSpec) → KeepTables groups tables → keep_tables groups tables ≡ true
+tables_from groups tables h =
+    and_from _ _ (and_from _ _ (le-leb _ _ h.few) (all_from (λ table. ltb table.group groups) (λ table. table.group < groups) (λ table t. lt-ltb _ _ t) tables h.groups_there)) (different_from tables h.different)
 
 -- ---- extents
 
@@ -200,23 +235,13 @@ follow_from h first [] numbers each = eq-eqb _ _ numbers
 follow_from h first (r ∷ records) numbers each =
     and_from _ _ (and_from _ _ (eq-eqb _ _ numbers.0) (deed_from h r.body each.0)) (follow_from h (first + 1) records numbers.1 each.1)
 
--- the tables of a set that holds them alone
-pub tables_true : (h : Header) (tables : List TableSpec) → keep_tables (length h.groups) tables ≡ true → KeepTables (length h.groups) tables
-tables_true h tables e = (parts_true (record h { kind = Full }) tables [] (and_from _ _ (and_from _ _ refl e) refl)).tables
-
-pub tables_from : (h : Header) (tables : List TableSpec) → KeepTables (length h.groups) tables → keep_tables (length h.groups) tables ≡ true
-tables_from h tables is =
-    let all = parts_from (record h { kind = Full }) tables [] (record { full = refl; tables = is; rows = record { few = omega arith; rise = tt; tables_there = tt; keys = tt } }) in
-    let first = and_parts (true && keep_tables (length h.groups) tables) true all in
-    first.0
-
 pub records_true : (h : Header) (tables : List TableSpec) (records : List Rec) → keep_records h tables records ≡ true → KeepsRecords h tables records
 unfolding keep_records
 records_true h tables records e =
     let p = and_parts (follow_on h h.first records) (keep_tables (length h.groups) (joined tables (tables_made records))) e in
     let both = follow_true h h.first records p.0 in
-    record { numbers = both.0; each = both.1; all_tables = tables_true h (joined tables (tables_made records)) p.1 }
+    record { numbers = both.0; each = both.1; all_tables = tables_true (length h.groups) (joined tables (tables_made records)) p.1 }
 
 pub records_from : (h : Header) (tables : List TableSpec) (records : List Rec) → KeepsRecords h tables records → keep_records h tables records ≡ true
 unfolding keep_records
-records_from h tables records is = and_from _ _ (follow_from h h.first records is.numbers is.each) (tables_from h (joined tables (tables_made records)) is.all_tables)
+records_from h tables records is = and_from _ _ (follow_from h h.first records is.numbers is.each) (tables_from (length h.groups) (joined tables (tables_made records)) is.all_tables)

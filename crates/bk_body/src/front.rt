@@ -5,7 +5,7 @@ ghost use Rattle.std.specs.List.{AllByRecursion};
 ghost use Rattle.bk_header.specs.Conditions.{IsHeader, KeepsConditions};
 ghost use Rattle.bk_header.specs.Reading.{header_form};
 ghost use Rattle.bk_reading.specs.Reading.{Reads};
-ghost use Rattle.bk_set.specs.Conditions.{IsTable};
+ghost use Rattle.bk_body.specs.Conditions.{IsTable};
 ghost use Rattle.bk_body.specs.Reading.{front_form};
 ghost use Rattle.bk_body.specs.Spelling.{front_bytes};
 

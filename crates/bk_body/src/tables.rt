@@ -5,10 +5,10 @@ ghost use Rattle.std.specs.List.{flat_map, list_all, list_any, AllByRecursion};
 ghost use Rattle.bk_bytes.specs.Codec.{times, counted};
 ghost use Rattle.bk_bytes.specs.Field.{bytes_of};
 ghost use Rattle.bk_reading.specs.Reading.{Reads};
-ghost use Rattle.bk_set.specs.Conditions.{IsTable};
-ghost use Rattle.bk_set.specs.Reading.{table_form, differ, are_different, keep_tables};
-ghost use Rattle.bk_set.specs.Spelling.{table_bytes};
 ghost use Rattle.bk_body.specs.Conditions as conditions;
+ghost use Rattle.bk_body.specs.Conditions.{IsTable};
+ghost use Rattle.bk_body.specs.Reading.{table_form, differ, are_different, keep_tables};
+ghost use Rattle.bk_body.specs.Spelling.{table_bytes};
 
 use bk_bytes::{append_text, append_u8, append_u16, append_u32, split_u8, split_u16, split_u32};
 use bk_fields::read_name;
@@ -26,8 +26,7 @@ fn append_table(out: &mut Vec<u8>, table: &TableSpec) -> Result<(), AllocError>
     append_u32(out, table.number)?;
     let name = table.name.as_str();
     append_text(out, name.as_bytes())?;
-    append_u8(out, table.group)?;
-    Ok(())
+    append_u8(out, table.group)
 }
 
 /// Appends the tables behind their number.
@@ -45,7 +44,7 @@ pub fn append_tables(out: &mut Vec<u8>, tables: &[TableSpec]) -> Result<(), Allo
 
 // ---- reading
 
-#[tactic(auto, unfolding(bk_set::specs::Reading::table_form))]
+#[tactic(auto, unfolding(crate::specs::Reading::table_form))]
 fn read_table(alloc: Global, bytes: &[u8]) -> Result<(TableSpec, &[u8]), Unread>
     ensures { Reads (λ x. (x.0, x.1.now)) result (table_form.reading bytes.now) }
 {

@@ -5,7 +5,7 @@ use Rattle.std.specs.List.{AllByRecursion, flat_map, list_any}
 use Rattle.std.proofs.lemmas.Bool.{cases_lt}
 use Rattle.std.proofs.lemmas.List.{append-nil, length-append, length-map, length-reverse, take_all}
 use Rattle.bk_body.specs.Body.{Body}
-use Rattle.bk_body.specs.Conditions.{IsBody, joined, same_table, tables_made, with_table}
+use Rattle.bk_body.specs.Conditions.{IsBody, IsTable, joined, same_table, tables_made, with_table}
 use Rattle.bk_facts.specs.Facts.{HasPath}
 use Rattle.bk_filling.specs.Filling.{HasPages, MayFill, names_of}
 use Rattle.bk_filling.specs.Records.{Spell}
@@ -29,7 +29,6 @@ use Rattle.bk_redo.specs.declared.place.PageAt.{PageAt}
 use Rattle.bk_restored.specs.Restored.{SufficesTold}
 use Rattle.bk_restored.specs.RestoringArriving.{Kept}
 use Rattle.bk_segments.specs.Records.{Numbered}
-use Rattle.bk_body.specs.SetConditions.{IsTable}
 use Rattle.bk_shown.specs.Shown.{ArePlaced}
 use Rattle.bk_side.specs.Names.{AreDifferent}
 use Rattle.bk_storage.specs.Laws.{storage-keeps}

@@ -7,12 +7,12 @@ use Rattle.bk_device.specs.Calls.{Elapses, TellsFront, TellsBytes}
 use Rattle.bk_device.specs.Compose.{durable_kept, keeps_by_telling, keeps_by_effect}
 use Rattle.bk_device.specs.Disk.{Files, Disk, MayLeave}
 use Rattle.bk_device.specs.Effects.{Effect, KeepsFiles, LeavesSince}
+use Rattle.bk_device.specs.declared.trouble.Trouble.{Trouble}
+use Rattle.bk_device.specs.declared.trouble.Trouble.TheVariants as trouble
 use Rattle.bk_executing.specs.EngineBesideLaws.{hosting-stays, stores-stand}
 use Rattle.bk_executing.specs.EngineCopiedLaws.{copied-files}
 use Rattle.bk_executing.specs.EngineStands.{IsOurs, Kept, StandsFor}
 use Rattle.bk_executing.specs.EngineTouched.{IsPath, TouchesOnly}
-use Rattle.bk_executing.specs.declared.error.ExecuteError.{ExecuteError}
-use Rattle.bk_executing.specs.declared.error.ExecuteError.TheVariants as execute
 use Rattle.bk_machine.specs.Machine.{behind}
 use Rattle.bk_machine.specs.Outcome.{Outcome}
 use Rattle.bk_machine.specs.World.{World}
@@ -120,16 +120,16 @@ pub silent-front : (bytes : List ℕ) (a b : Disk) → b.told ≡ a.told → Tel
 silent-front bytes a b same = (0, same ∙ sym (append-nil a.told))
 
 -- no fault of the console comes from executing
-pub not-console : (e : ExecuteError) → executed_error e ≡ Console → ⊥
-not-console execute.Fault h = cc h
-not-console execute.NoMemory h = cc h
-not-console execute.Broken h = cc h
+pub not-console : (e : Trouble) → executed_error e ≡ Console → ⊥
+not-console trouble.Fault h = cc h
+not-console trouble.NoMemory h = cc h
+not-console trouble.Broken h = cc h
 
 -- nothing is found broken but by it
-pub executed-broken : (e : ExecuteError) → executed_error e ≡ Broken → e ≡ execute.Broken
-executed-broken execute.Fault h = absurd cc
-executed-broken execute.NoMemory h = absurd cc
-executed-broken execute.Broken h = refl
+pub executed-broken : (e : Trouble) → executed_error e ≡ Broken → e ≡ trouble.Broken
+executed-broken trouble.Fault h = absurd cc
+executed-broken trouble.NoMemory h = absurd cc
+executed-broken trouble.Broken h = refl
 
 -- executing it, and telling some of its reply: the files hold its world meanwhile, but for what waits
 pub telling-cut : (w : World) (outcome : Outcome) (bytes : List ℕ) (a b c : Disk) → HoldsNow b (behind w outcome) → b.told ≡ a.told → bytes ≡ reply_text listing_text outcome.reply → Effect IsOurs (CutIn w outcome.acts) a b → TellsBytes bytes b c

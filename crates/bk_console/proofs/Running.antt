@@ -7,12 +7,12 @@ use Rattle.bk_device.specs.Calls.{ChangesNothing, Elapses}
 use Rattle.bk_device.specs.Compose.{left_begins, left_effect, left_weaken}
 use Rattle.bk_device.specs.Disk.{Files, Disk, MayLeave, IsSettled, IsLawful}
 use Rattle.bk_device.specs.Effects.{Effect, LeavesSince}
+use Rattle.bk_device.specs.declared.trouble.Trouble.{Trouble}
+use Rattle.bk_device.specs.declared.trouble.Trouble.TheVariants as trouble
 use Rattle.bk_executing.specs.EngineLoading.{Leaves, Stands}
 use Rattle.bk_executing.specs.EngineStands.{IsOurs, Kept, StandsFor}
 use Rattle.bk_executing.specs.EngineTouched.{IsMadeAt, IsPath, IsTouched, NoMedium, TouchesOnly}
 use Rattle.bk_executing.specs.Closing.{CutsEnd}
-use Rattle.bk_executing.specs.declared.error.ExecuteError.{ExecuteError}
-use Rattle.bk_executing.specs.declared.error.ExecuteError.TheVariants as execute
 use Rattle.bk_items.specs.declared.item.ScriptEntry.{ScriptEntry}
 use Rattle.bk_machine.specs.Acts.{Act, done_all}
 use Rattle.bk_machine.specs.Closing.{AreClosing, closed_by}
@@ -24,8 +24,8 @@ use Rattle.bk_master.specs.Master.{IsMade}
 use Rattle.bk_master.specs.declared.record.Own.{Own}
 use Rattle.bk_restarts.specs.Crashes.{CrashLaws}
 use Rattle.bk_stores.specs.Quiet.{AreQuiet}
-use Rattle.bk_stores.specs.declared.error.StoresError.{StoresError}
-use Rattle.bk_stores.specs.declared.error.StoresError.TheVariants as load
+use Rattle.bk_stores.specs.declared.error.LoadError.{LoadError}
+use Rattle.bk_stores.specs.declared.error.LoadError.TheVariants as load
 use Rattle.bk_syntax.specs.Items.{AreItems}
 use Rattle.bk_report.specs.Listing.{listing_text}
 use Rattle.bk_world.specs.Text.{replies_text}
@@ -56,7 +56,7 @@ not_ended n above (inr h) = omega (arith, h)
 
 -- What comes only from what is broken.
 
-pub load-broken : (e : StoresError) → load_status e ≡ status.Broken → e ≡ load.Broken
+pub load-broken : (e : LoadError) → load_status e ≡ status.Broken → e ≡ load.Broken
 load-broken load.NotAnInstance h = absurd cc
 load-broken load.Broken h = refl
 load-broken load.Fault h = absurd cc
@@ -68,10 +68,10 @@ answer-broken answer.Device h = absurd cc
 answer-broken answer.NoMemory h = absurd cc
 answer-broken answer.Broken h = refl
 
-pub close-broken : (e : ExecuteError) → close_status e ≡ status.Broken → e ≡ execute.Broken
-close-broken execute.Fault h = cc h
-close-broken execute.NoMemory h = cc h
-close-broken execute.Broken h = refl
+pub close-broken : (e : Trouble) → close_status e ≡ status.Broken → e ≡ trouble.Broken
+close-broken trouble.Fault h = cc h
+close-broken trouble.NoMemory h = cc h
+close-broken trouble.Broken h = refl
 
 -- Worlds.
 
@@ -235,7 +235,7 @@ module _ (laws : Laws) (options : WordOptions) (statements : List ScriptEntry) (
   spares-load t settled w stands os = spares-more (λ path made. inl (made-making options.instance disk.files w stands path made)) (spares-effect (loads.spares t settled w stands))
 
   -- the instance wasn't loaded
-  pub not-loaded : (e : StoresError) → Executed (Some options) statements ct coming coming dt disk disk1 (code_of (load_status e))
+  pub not-loaded : (e : LoadError) → Executed (Some options) statements ct coming coming dt disk disk1 (code_of (load_status e))
   not-loaded e = record {
     moments = [];
     outcomes = [];
@@ -253,13 +253,13 @@ module _ (laws : Laws) (options : WordOptions) (statements : List ScriptEntry) (
     cut = λ h. absurd (not_cut e h);
   }
     where
-      above : (e : StoresError) → 1 < code_of (load_status e)
+      above : (e : LoadError) → 1 < code_of (load_status e)
       above load.NotAnInstance = omega arith
       above load.Broken = omega arith
       above load.Fault = omega arith
       above load.NoMemory = omega arith
 
-      not_cut : (e : StoresError) → code_of (load_status e) ≡ 4 → ⊥
+      not_cut : (e : LoadError) → code_of (load_status e) ≡ 4 → ⊥
       not_cut load.NotAnInstance h = omega (arith, h)
       not_cut load.Broken h = omega (arith, h)
       not_cut load.Fault h = omega (arith, h)
@@ -393,20 +393,20 @@ module _ (laws : Laws) (options : WordOptions) (statements : List ScriptEntry) (
       }
 
       -- closing failed
-      pub not-closed : (e : ExecuteError) → Executed (Some options) statements ct coming coming_after dt disk disk3 (code_of (close_status e))
+      pub not-closed : (e : Trouble) → Executed (Some options) statements ct coming coming_after dt disk disk3 (code_of (close_status e))
       not-closed e = ended-by (code_of (close_status e)) (not_cut e)
           (λ t w stands. let cut = ends.crash t options.instance w stands in record { acts = cut.0; closing = cut.1; cuts = cut.2; stands = λ h. absurd (not_ended _ (above e) h) })
           (λ t h. absurd (not_ended _ (above e) h)) (λ h. absurd (not_ended _ (above e) (inl h))) (λ h. absurd (not_ended _ (above e) (inr h)))
         where
-          above : (e : ExecuteError) → 1 < code_of (close_status e)
-          above execute.Fault = omega arith
-          above execute.NoMemory = omega arith
-          above execute.Broken = omega arith
+          above : (e : Trouble) → 1 < code_of (close_status e)
+          above trouble.Fault = omega arith
+          above trouble.NoMemory = omega arith
+          above trouble.Broken = omega arith
 
-          not_cut : (e : ExecuteError) → code_of (close_status e) ≡ 4 → ⊥
-          not_cut execute.Fault h = omega (arith, h)
-          not_cut execute.NoMemory h = omega (arith, h)
-          not_cut execute.Broken h = omega (arith, h)
+          not_cut : (e : Trouble) → code_of (close_status e) ≡ 4 → ⊥
+          not_cut trouble.Fault h = omega (arith, h)
+          not_cut trouble.NoMemory h = omega (arith, h)
+          not_cut trouble.Broken h = omega (arith, h)
 
     -- it was closed
     closed-to : {finish : Kept} {disk3 : Disk} (was_done : Type 0) → dt → Closed dt finish disk2 disk3 → (w : World) → StandsFor disk2 finish w → ClosesTo options.instance w was_done disk2 disk3

@@ -3,8 +3,8 @@ use Rattle.std.specs.Prelude.{◌≡◌, ◌⊎◌, ◌<◌, ◌≤◌, ℕ, zer
 use Rattle.std.specs.List.{list_any}
 use Rattle.bk_device.specs.Calls.{Elapses, TellsFront}
 use Rattle.bk_device.specs.Disk.{Files, Disk, MayLeave}
-use Rattle.bk_executing.specs.declared.error.ExecuteError.{ExecuteError}
-use Rattle.bk_executing.specs.declared.error.ExecuteError.TheVariants as execute
+use Rattle.bk_device.specs.declared.trouble.Trouble.{Trouble}
+use Rattle.bk_device.specs.declared.trouble.Trouble.TheVariants as trouble
 use Rattle.bk_executing.specs.Executing.{Executed, Failed}
 use Rattle.bk_executing.specs.EngineLoading.{Stands}
 use Rattle.bk_executing.specs.EngineStands.{Covers, Kept, StandsFor}
@@ -217,7 +217,7 @@ pub record CutAll (stop : Bool) (old : Kept) (ss : List ScriptEntry) (clock_tell
   pub spares : device_tells → (w : World) → StandsFor disk old w → Spares (IsTouched (OutcomesWrite outcomes)) disk disk_after
 
 -- why an answer is cut short where executing its statement fails
-abbrev pub executed_error : ExecuteError → AnswerError
-executed_error execute.Fault = Device
-executed_error execute.NoMemory = NoMemory
-executed_error execute.Broken = Broken
+abbrev pub executed_error : Trouble → AnswerError
+executed_error trouble.Fault = Device
+executed_error trouble.NoMemory = NoMemory
+executed_error trouble.Broken = Broken

@@ -3,16 +3,16 @@ use Rattle.std.specs.Prelude.{◌≡◌, ◌≢◌, ◌⊎◌, ◌<◌, ◌≤�
 use Rattle.bk_device.specs.Calls.{ChangesNothing, TellsFront}
 use Rattle.bk_device.specs.Disk.{Files, Disk, IsSettled, MayLeave}
 use Rattle.bk_device.specs.Effects.{KeepsFiles, LeavesSince}
+use Rattle.bk_device.specs.declared.trouble.Trouble.{Trouble}
+use Rattle.bk_device.specs.declared.trouble.Trouble.TheVariants as trouble
 use Rattle.bk_executing.specs.EngineLoading.{Stands}
 use Rattle.bk_executing.specs.EngineTouched.{IsTouched}
-use Rattle.bk_executing.specs.declared.error.ExecuteError.{ExecuteError}
-use Rattle.bk_executing.specs.declared.error.ExecuteError.TheVariants as execute
 use Rattle.bk_master.specs.Master.{IsMade, IsNoInstance}
 use Rattle.bk_settling.specs.declared.error.SettleError.{SettleError}
 use Rattle.bk_settling.specs.declared.error.SettleError.TheVariants as settle
 use Rattle.bk_stores.specs.Quiet.{AreQuiet}
-use Rattle.bk_stores.specs.declared.error.StoresError.{StoresError}
-use Rattle.bk_stores.specs.declared.error.StoresError.TheVariants as load
+use Rattle.bk_stores.specs.declared.error.LoadError.{LoadError}
+use Rattle.bk_stores.specs.declared.error.LoadError.TheVariants as load
 use Rattle.bk_items.specs.declared.item.ScriptEntry.{ScriptEntry}
 use Rattle.bk_machine.specs.Acts.{Act, done_all}
 use Rattle.bk_machine.specs.Closing.{AreClosing, closed_by}
@@ -65,16 +65,16 @@ answer_status answer.Device = DeviceFault
 answer_status answer.NoMemory = NoMemory
 answer_status answer.Broken = Broken
 
-abbrev pub load_status : StoresError → Status
+abbrev pub load_status : LoadError → Status
 load_status load.NotAnInstance = NotAnInstance
 load_status load.Broken = Broken
 load_status load.Fault = DeviceFault
 load_status load.NoMemory = NoMemory
 
-abbrev pub close_status : ExecuteError → Status
-close_status execute.Fault = DeviceFault
-close_status execute.NoMemory = NoMemory
-close_status execute.Broken = Broken
+abbrev pub close_status : Trouble → Status
+close_status trouble.Fault = DeviceFault
+close_status trouble.NoMemory = NoMemory
+close_status trouble.Broken = Broken
 
 abbrev pub settle_status : SettleError → Status
 settle_status settle.Fault = DeviceFault

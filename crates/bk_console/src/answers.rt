@@ -4,7 +4,6 @@ ghost use Rattle.bk_device.specs.Counts.{HasCause};
 ghost use Rattle.bk_device.specs.Effects.{KeepsFiles};
 ghost use Rattle.bk_executing.specs.EngineStands.{IsReady, NamesSet, StandsFor, own_in};
 ghost use Rattle.bk_executing.specs.EngineTouched.{IsPath, TouchesOnly};
-ghost use Rattle.bk_executing.specs.declared.error.ExecuteError.TheVariants as execute_error;
 ghost use Rattle.bk_items.specs.declared.item.ScriptEntry.{ScriptEntry as EntryOf};
 ghost use Rattle.bk_machine.specs.World.{World};
 ghost use Rattle.bk_stores.specs.Standing.{AreStanding};
@@ -15,8 +14,8 @@ ghost use Rattle.bk_console.specs.Causes.{HasCauses};
 ghost use Rattle.bk_console.specs.declared.answers.AnswerError.TheVariants as answer_error;
 
 use crate::report;
-use bk_device::{Clock, Device, Failed};
-use bk_executing::{Engine, ExecuteError, execute};
+use bk_device::{Clock, Device, Failed, Trouble};
+use bk_executing::{Engine, execute};
 use bk_items::ScriptEntry;
 use bk_restarts::crashes_leave_worlds;
 use bk_syntax::Reader;
@@ -50,14 +49,14 @@ impl From<Failed> for AnswerError {
     }
 }
 
-impl From<ExecuteError> for AnswerError {
+impl From<Trouble> for AnswerError {
     ghost from_gives = { λ error e. e ≡ executed_error error };
 
-    fn from(error: ExecuteError) -> Self {
+    fn from(error: Trouble) -> Self {
         match error {
-            ExecuteError::Fault => AnswerError::Device,
-            ExecuteError::NoMemory => AnswerError::NoMemory,
-            ExecuteError::Broken => AnswerError::Broken,
+            Trouble::Fault => AnswerError::Device,
+            Trouble::NoMemory => AnswerError::NoMemory,
+            Trouble::Broken => AnswerError::Broken,
         }
     }
 }
@@ -92,7 +91,7 @@ fn execute_one<R: Threads + Sync, D: Device>(
     statement: &ScriptEntry,
     device: &mut D,
     now: u64,
-) -> Result<Reply, ExecuteError>
+) -> Result<Reply, Trouble>
     requires ready { IsReady engine.old }
     requires none { (own_in engine.old).staging ≡ None }
     requires standing { D.tells → AreStanding (D.disk device.old) engine.old.hosting.stores }
@@ -102,8 +101,8 @@ fn execute_one<R: Threads + Sync, D: Device>(
     ensures done { IfOk result (λ reply. IsDone D.tells engine.old (D.disk device.old) statement.now now reply engine.new (D.disk device.new)) }
     ensures not_done { OnErr result (IsNotDone D.tells engine.old (D.disk device.old) statement.now now (D.disk device.new)) }
     ensures touches { D.tells → TouchesOnly IsPath (D.disk device.old) (D.disk device.new) }
-    ensures broken { D.tells → IsErrOf result execute_error.Broken → (w : World) → StandsFor (D.disk device.old) engine.old w → ⊥ }
-    ensures cause { HasCause D.disk_faults D.tell_faults device.old device.new (IsErrOf result execute_error.Fault) }
+    ensures broken { D.tells → IsErrOf result Trouble.Broken → (w : World) → StandsFor (D.disk device.old) engine.old w → ⊥ }
+    ensures cause { HasCause D.disk_faults D.tell_faults device.old device.new (IsErrOf result Trouble.Fault) }
 {
     engine.at_rest(device);
     let reply = execute(engine, rt, device, statement, now)?;

@@ -31,13 +31,11 @@ use std::alloc::Global;
 use std::marker::Brand;
 use std::thread::Threads;
 
-/// Runs the script that the source gives over the instance on the device: reads it to its end, executes its items in order,
-/// one after the other, and tells each reply before the next item is read. With `-b` it stops at the first refusal. At its end
-/// what is open is rolled back. Answers the exit status.
+/// Runs the source's script over the device's instance, made where there is none: executes its items in order, and tells each
+/// reply before it reads the next. With `-b` it stops at the first refusal. At its end all open is rolled back. Answers the exit
+/// status; at 2, 3, 7 and 8 nothing was told and no file changed.
 ///
-/// The instance is made where the device holds none. What a statement changed is on the device before its reply is told,
-/// and what it said in a transaction that is open then before the reply to its commit; a crash at any moment leaves what a
-/// crash of the machine leaves. No other file is touched. At statuses 2, 3, 7 and 8 nothing was told, and no file is changed.
+/// What is acknowledged is on the device before its reply; a crash leaves what a crash of the machine leaves.
 pub fn run<R: Threads + Sync, D: Device, S: Source, C: Clock>(
     rt: &R,
     alloc: Global,

@@ -90,6 +90,5 @@ fn add_row(alloc: Global, text: &mut String, key: u64, value: &Value) -> Result<
 {
     text.push_str(&format!(in alloc; "{key}\t")?)?;
     text.push_str(value.as_str())?;
-    text.push_str("\n")?;
-    Ok(())
+    text.push_str("\n")
 }

@@ -5,9 +5,9 @@ ghost use Rattle.bk_console.specs.declared.status.Status.TheVariants.{NoMemory};
 use crate::answers::{AnswerError, Ended};
 use crate::command_line::WordsError;
 use crate::reading::ReadError;
-use bk_executing::ExecuteError;
+use bk_device::Trouble;
 use bk_settling::SettleError;
-use bk_stores::StoresError;
+use bk_stores::LoadError;
 use std::alloc::AllocError;
 
 /// How a run ended. Its code is the program's exit status.
@@ -101,27 +101,27 @@ impl From<AnswerError> for Status {
     }
 }
 
-impl From<StoresError> for Status {
+impl From<LoadError> for Status {
     ghost from_gives = { λ error status. status ≡ load_status error };
 
-    fn from(error: StoresError) -> Self {
+    fn from(error: LoadError) -> Self {
         match error {
-            StoresError::NotAnInstance => Status::NotAnInstance,
-            StoresError::Fault => Status::DeviceFault,
-            StoresError::NoMemory => Status::NoMemory,
-            StoresError::Broken => Status::Broken,
+            LoadError::NotAnInstance => Status::NotAnInstance,
+            LoadError::Fault => Status::DeviceFault,
+            LoadError::NoMemory => Status::NoMemory,
+            LoadError::Broken => Status::Broken,
         }
     }
 }
 
-impl From<ExecuteError> for Status {
+impl From<Trouble> for Status {
     ghost from_gives = { λ error status. status ≡ close_status error };
 
-    fn from(error: ExecuteError) -> Self {
+    fn from(error: Trouble) -> Self {
         match error {
-            ExecuteError::Fault => Status::DeviceFault,
-            ExecuteError::NoMemory => Status::NoMemory,
-            ExecuteError::Broken => Status::Broken,
+            Trouble::Fault => Status::DeviceFault,
+            Trouble::NoMemory => Status::NoMemory,
+            Trouble::Broken => Status::Broken,
         }
     }
 }

@@ -154,8 +154,7 @@ impl Control {
         ensures cause { HasCause D.disk_faults D.tell_faults dev.old dev.new (IsErr result) }
     {
         self.make_ready(dev)?;
-        self.advance(dev, bytes)?;
-        Ok(())
+        self.advance(dev, bytes)
     }
 
     // Sees to it that both slots are there in their whole length, and that a sequence is left.
@@ -169,8 +168,7 @@ impl Control {
         ensures cause { HasCause D.disk_faults D.tell_faults dev.old dev.new (IsErr result) }
     {
         self.make_whole(dev)?;
-        self.leave_room(dev)?;
-        Ok(())
+        self.leave_room(dev)
     }
 
     // Sees to it that both slots are there in their whole length.

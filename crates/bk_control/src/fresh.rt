@@ -24,8 +24,7 @@ pub fn lay<D: Device>(dev: &mut D, name: &str) -> Result<(), Failed>
     // up to a slot's gate byte, and with it
     lengthen(dev, name, 0, 9)?;
     lengthen(dev, name, 9, 65_609)?;
-    lengthen(dev, name, 65_609, 131_200)?;
-    Ok(())
+    lengthen(dev, name, 65_609, 131_200)
 }
 
 // Puts a content into the first slot of a file whose slots are closed: a crash leaves no control, or this one.
@@ -39,6 +38,5 @@ pub fn open_first<D: Device>(dev: &mut D, name: &str, bytes: &[u8]) -> Result<()
     ensures cause { HasCause D.disk_faults D.tell_faults dev.old dev.new (IsErr result) }
 {
     fill(dev, name, 0, 0, bytes)?;
-    write_durably(dev, name, 8, &[1])?;
-    Ok(())
+    write_durably(dev, name, 8, &[1])
 }

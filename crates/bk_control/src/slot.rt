@@ -59,8 +59,7 @@ pub fn fill<D: Device>(
     dev.write(name, start, &MAGIC)?;
     dev.write(name, start + 9, &head(sequence, bytes.len() as u64))?;
     dev.write(name, start + 32, bytes)?;
-    dev.sync(name)?;
-    Ok(())
+    dev.sync(name)
 }
 
 // Closes the gate of the slot that doesn't count, if it is open, durably.
@@ -72,10 +71,10 @@ fn close<D: Device>(dev: &mut D, name: &str, side: Side, is_open: bool) -> Resul
     ensures crash { D.tells → Effect (IsName name.now) (λ image. counting (contents (image name.now)) ≡ counting (contents ((D.disk dev.old).files name.now))) (D.disk dev.old) (D.disk dev.new) }
     ensures cause { HasCause D.disk_faults D.tell_faults dev.old dev.new (IsErr result) }
 {
-    if is_open {
-        write_durably(dev, name, side.place() + 8, &[0])?;
+    if !is_open {
+        return Ok(());
     }
-    Ok(())
+    write_durably(dev, name, side.place() + 8, &[0])
 }
 
 // Puts a content into the slot that doesn't count: a crash leaves the content that counts, or this one.
@@ -97,6 +96,5 @@ pub fn rewrite<D: Device>(
 {
     close(dev, name, side, is_open)?;
     fill(dev, name, side.place(), sequence, bytes)?;
-    write_durably(dev, name, side.place() + 8, &[1])?;
-    Ok(())
+    write_durably(dev, name, side.place() + 8, &[1])
 }

@@ -21,8 +21,7 @@ fn write_zeros<D: Device>(dev: &mut D, name: &str, at: u64, n: usize) -> Result<
     ensures cause { HasCause D.disk_faults D.tell_faults dev.old dev.new (IsErr result) }
 {
     let zeros = [0u8; 4_096];
-    dev.write(name, at, &zeros[..n])?;
-    Ok(())
+    dev.write(name, at, &zeros[..n])
 }
 
 // Writes zeros behind the end of a shorter file up to this length in bytes, durably.
@@ -40,8 +39,7 @@ pub fn lengthen<D: Device>(dev: &mut D, name: &str, from: u64, to: u64) -> Resul
         write_zeros(dev, name, at, n as usize)?;
         at += n;
     }
-    dev.sync(name)?;
-    Ok(())
+    dev.sync(name)
 }
 
 // Cuts off what stands of the second slot, where the first counts, and says how long the file is then.
@@ -77,8 +75,7 @@ fn add_second<D: Device>(dev: &mut D, name: &str, len: u64) -> Result<(), Failed
     let left = drop_second(dev, name, len)?;
     // up to the gate byte of the second slot, and with it
     lengthen(dev, name, left, 65_609)?;
-    lengthen(dev, name, 65_609, 131_200)?;
-    Ok(())
+    lengthen(dev, name, 65_609, 131_200)
 }
 
 // Brings a file, in which this slot counts, to its whole length, and says whether the other slot is open then.

@@ -4,3 +4,4 @@ pub mod Errors
 pub mod ExtentLaws
 pub mod Extents
 pub mod SetLaws
+pub mod Troubles

@@ -1,9 +1,10 @@
 // Why nothing was copied.
 ghost use Rattle.std.specs.Prelude.{◌≡◌};
 ghost use Rattle.bk_copying.specs.Errors.{FromStore};
+ghost use Rattle.bk_copying.specs.Troubles.{FromCopy};
 ghost use Rattle.bk_copying.specs.declared.error.CopyError.TheVariants.{Fault, NoMemory};
 
-use bk_device::Failed;
+use bk_device::{Failed, Trouble};
 use bk_store::StoreError;
 use std::alloc::AllocError;
 use thiserror::Error;
@@ -42,6 +43,17 @@ impl From<StoreError> for CopyError {
         match error {
             StoreError::Fault => CopyError::Fault,
             StoreError::NoMemory => CopyError::NoMemory,
+        }
+    }
+}
+
+impl From<CopyError> for Trouble {
+    ghost from_gives = { FromCopy };
+
+    fn from(error: CopyError) -> Self {
+        match error {
+            CopyError::Fault => Trouble::Fault,
+            CopyError::NoMemory => Trouble::NoMemory,
         }
     }
 }

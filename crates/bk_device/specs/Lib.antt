@@ -11,3 +11,4 @@ pub mod Replay
 pub mod Replayed
 pub mod Sources
 pub mod Torn
+pub mod Troubles

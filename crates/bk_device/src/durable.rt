@@ -22,8 +22,7 @@ pub fn write_durably<D: Device>(
     ensures cause { HasCause D.disk_faults D.tell_faults dev.old dev.new (IsErr result) }
 {
     dev.write(name, at, bytes)?;
-    dev.sync(name)?;
-    Ok(())
+    dev.sync(name)
 }
 
 /// Removes a file, if there is one, and syncs that.
@@ -34,6 +33,5 @@ pub fn remove_durably<D: Device>(dev: &mut D, name: &str) -> Result<(), Failed>
     ensures cause { HasCause D.disk_faults D.tell_faults dev.old dev.new (IsErr result) }
 {
     dev.remove(name)?;
-    dev.sync(name)?;
-    Ok(())
+    dev.sync(name)
 }

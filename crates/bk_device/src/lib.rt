@@ -11,6 +11,7 @@ mod held;
 mod mem_device;
 mod mem_source;
 mod source;
+mod trouble;
 
 pub use clock::Clock;
 pub use device::Device;
@@ -20,6 +21,7 @@ pub use mem_device::{MemDevice, crash_law};
 pub use mem_source::MemSource;
 pub use source::Source;
 use thiserror::Error;
+pub use trouble::Trouble;
 
 /// A fault of a device or a source, whose count rose in the call that answered it.
 #[derive(Clone, Copy, Debug, PartialEq, Eq, Error)]

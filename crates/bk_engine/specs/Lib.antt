@@ -37,4 +37,3 @@ pub use Rattle.bk_stores.specs.ListLaws as StoresListLaws
 pub use Rattle.bk_stores.specs.SlotLaws as StoresSlotLaws
 pub use Rattle.bk_stores.specs.Standing as StoresStanding
 pub use Rattle.bk_stores.specs.Stores
-pub use Rattle.bk_stores.specs.declared.error.StoresError

@@ -15,11 +15,10 @@ use crate::coming::{Coming, coming_of};
 use crate::engine::Engine;
 use bk_archive::acts_keep_media;
 use bk_carried::{carried_sets_suffice, extents_lie_in_order};
-use bk_device::Device;
+use bk_device::{Device, Trouble};
 use bk_hosted::hosted_databases_follow_restores;
 use bk_ids::{Body, Guid, Lsn, Rec};
 use bk_machine::acts_keep_worlds_sound;
-use bk_stores::StoresError;
 use bk_volume::{Medium, StoredSet};
 use bk_world::Header;
 use std::thread::Threads;
@@ -36,11 +35,10 @@ fn laws()
 }
 
 impl Engine {
-    /// The set that was opened on a medium brings up the database of this name, whose place it has taken (`park`) under this header, which is the set's own, or has its files and its log at other paths: its
-    /// files are restored, and it is recovered at the set's end, on this branch. All is undone that was pending in the backup, and then a record with the number `last` names the branch. A crash leaves the world before both acts, but for what waited, or the one behind both.
+    /// The set that was opened brings up the database of this name, whose place it has taken (`park`) under this header: its own, but for paths. The database is recovered at the set's end, on this branch, which
+    /// a record with the number `last` names. A crash leaves the world before both acts, but for what waited, or the one behind both.
     ///
-    /// `Broken` is answered only where the set makes no such database, or a database that can be used has one of its data files. Where there is no database of this name, it isn't being restored, no database may
-    /// have the set's files, or all GUIDs are used up, the call ends as if memory were wanting.
+    /// `Broken` comes only where the set makes no such database, or a usable one has its data files.
     pub fn bring_up<R: Threads + Sync, D: Device>(
         &mut self,
         rt: &R,
@@ -51,7 +49,7 @@ impl Engine {
         header: &Header,
         branch: Guid,
         last: Lsn,
-    ) -> Result<(), StoresError>
+    ) -> Result<(), Trouble>
         requires ready { IsReady self.old }
         requires medium { IsMediumFile medium.now.name }
         requires moves { MovesOnly stored.now.header header.now }
@@ -65,15 +63,14 @@ impl Engine {
         ensures crash { D.tells → (w : World) → StandsFor (D.disk dev.old) self.old w → IsSetOn (D.disk dev.old).files medium.now.name stored.now → MayComeUp w name.now header.now branch last
             → Effect IsOurs (CutsActs w (coming_up w name.now header.now branch)) (D.disk dev.old) (D.disk dev.new) }
         ensures touches { D.tells → TouchesOnly NoMedium (D.disk dev.old) (D.disk dev.new) }
-        ensures broken { D.tells → IsErrOf result StoresError.Broken → (w : World) → StandsFor (D.disk dev.old) self.old w → IsSetOn (D.disk dev.old).files medium.now.name stored.now
+        ensures broken { D.tells → IsErrOf result Trouble.Broken → (w : World) → StandsFor (D.disk dev.old) self.old w → IsSetOn (D.disk dev.old).files medium.now.name stored.now
             → MayComeUp w name.now header.now branch last → ⊥ }
-        ensures not_an_instance { IsErrOf result StoresError.NotAnInstance → ⊥ }
-        ensures cause { HasCause D.disk_faults D.tell_faults dev.old dev.new (IsErrOf result StoresError.Fault) }
+        ensures cause { HasCause D.disk_faults D.tell_faults dev.old dev.new (IsErrOf result Trouble.Fault) }
     {
         laws();
         self.reserve(dev, 1)?;
         let Some(at) = self.hosting.find(name) else {
-            return Err(StoresError::NoMemory);
+            return Err(Trouble::NoMemory);
         };
         let coming = coming_of(self.alloc, name, header, stored.tables(), branch)?;
         let Coming {

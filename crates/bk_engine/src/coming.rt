@@ -11,6 +11,7 @@ ghost use Rattle.bk_store.specs.Told.{data_file};
 ghost use Rattle.bk_engine.specs.Bringing.{files_on, known_on, points_at, spec_on};
 
 use crate::parking::units_of;
+use bk_device::Trouble;
 use bk_facts::DataFile;
 use bk_ids::{Branch, Guid, Name, Sequence};
 use bk_kept::{copy_file, copy_groups, is_simple};
@@ -18,7 +19,6 @@ use bk_known::{AsOf, DatabaseSpec, Known};
 use bk_paged::may_make;
 use bk_points::Points;
 use bk_store::copy_tables;
-use bk_stores::StoresError;
 use bk_world::{Base, FileSpec, Header, HeaderFile, State, Status, Storage, TableSpec};
 use std::alloc::{AllocError, Global};
 
@@ -103,17 +103,17 @@ fn known_of(
 }
 
 // The name that a text spells, as if memory were wanting where it spells none.
-fn name_of(alloc: Global, text: &str) -> Result<Name, StoresError>
+fn name_of(alloc: Global, text: &str) -> Result<Name, Trouble>
     ensures name { IfOk result (λ name. name ≡ text.now) }
     ensures string { OnOk result (IsString 1 64 text.now) }
-    ensures memory { IfErr result (λ e. e ≡ StoresError.NoMemory) }
+    ensures memory { IfErr result (λ e. e ≡ Trouble.NoMemory) }
 {
     if text.is_empty() {
-        return Err(StoresError::NoMemory);
+        return Err(Trouble::NoMemory);
     }
     match Name::new(alloc, text) {
         Ok(name) => Ok(name),
-        Err(_) => Err(StoresError::NoMemory),
+        Err(_) => Err(Trouble::NoMemory),
     }
 }
 
@@ -151,12 +151,12 @@ fn points_of(alloc: Global, header: &Header) -> Result<Points, AllocError>
 }
 
 // A data file, as if memory were wanting where it is too large.
-fn file_of(alloc: Global, file: &FileSpec) -> Result<DataFile, StoresError>
+fn file_of(alloc: Global, file: &FileSpec) -> Result<DataFile, Trouble>
     ensures file { IfOk result (λ made. made ≡ data_file file.now) }
-    ensures memory { IfErr result (λ e. e ≡ StoresError.NoMemory) }
+    ensures memory { IfErr result (λ e. e ≡ Trouble.NoMemory) }
 {
     if file.extents > MOST_EXTENTS {
-        return Err(StoresError::NoMemory);
+        return Err(Trouble::NoMemory);
     }
     let path = file.path.copy(alloc)?;
     Ok(DataFile {
@@ -165,9 +165,9 @@ fn file_of(alloc: Global, file: &FileSpec) -> Result<DataFile, StoresError>
     })
 }
 
-fn files_of(alloc: Global, files: &[FileSpec]) -> Result<Vec<DataFile>, StoresError>
+fn files_of(alloc: Global, files: &[FileSpec]) -> Result<Vec<DataFile>, Trouble>
     ensures files { IfOk result (λ made. made.items ≡ map data_file files.now) }
-    ensures memory { IfErr result (λ e. e ≡ StoresError.NoMemory) }
+    ensures memory { IfErr result (λ e. e ≡ Trouble.NoMemory) }
 {
     let mut made = Vec::new(alloc);
     for file in files {
@@ -212,14 +212,14 @@ fn may_keep(known: &Known) -> bool
 }
 
 // The data files of a description, as if memory were wanting where no database may be made of them.
-fn files_made(alloc: Global, files: &[FileSpec]) -> Result<Vec<DataFile>, StoresError>
+fn files_made(alloc: Global, files: &[FileSpec]) -> Result<Vec<DataFile>, Trouble>
     ensures files { IfOk result (λ made. made.items ≡ map data_file files.now) }
     ensures fills { IfOk result (λ made. MayFill made.items) }
-    ensures memory { IfErr result (λ e. e ≡ StoresError.NoMemory) }
+    ensures memory { IfErr result (λ e. e ≡ Trouble.NoMemory) }
 {
     let made = files_of(alloc, files)?;
     if !may_make(alloc, &made, &[])? {
-        return Err(StoresError::NoMemory);
+        return Err(Trouble::NoMemory);
     }
     Ok(made)
 }
@@ -231,19 +231,19 @@ pub(crate) fn coming_of(
     header: &Header,
     tables: &[TableSpec],
     branch: Guid,
-) -> Result<Coming, StoresError>
+) -> Result<Coming, Trouble>
     ensures files { IfOk result (λ c. c.files.items ≡ files_on header.now) }
     ensures fills { IfOk result (λ c. MayFill c.files.items) }
     ensures known { IfOk result (λ c. c.known ≡ known_on name.now header.now tables.now branch) }
     ensures keeps { IfOk result (λ c. KeepsKnown c.known) }
     ensures points { IfOk result (λ c. c.points ≡ points_at header.now) }
     ensures string { OnOk result (IsString 1 64 name.now) }
-    ensures memory { IfErr result (λ e. e ≡ StoresError.NoMemory) }
+    ensures memory { IfErr result (λ e. e ≡ Trouble.NoMemory) }
 {
     let spelled = name_of(alloc, name)?;
     let known = known_of(alloc, spelled, header, tables, branch)?;
     if !may_keep(&known) {
-        return Err(StoresError::NoMemory);
+        return Err(Trouble::NoMemory);
     }
     let files = files_made(alloc, known.spec.storage.files.as_slice())?;
     let points = points_of(alloc, header)?;

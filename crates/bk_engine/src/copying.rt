@@ -1,10 +1,11 @@
 // Databases are copied into sets that are being written.
-ghost use Rattle.std.specs.Prelude.{◌≡◌, ◌<◌, ◌+◌, ◌^◌, [], false, List, ℕ, Some, length, map, slice_get, IfOk, IfSome, OnOk, IsErrOf};
+ghost use Rattle.std.specs.Prelude.{◌≡◌, ◌<◌, ◌+◌, ◌^◌, [], false, List, ℕ, Some, length, map, slice_get, IfErr, IfOk, IfSome, OnOk, IsErrOf};
 ghost use Rattle.std.specs.List.{position};
 ghost use Rattle.bk_body.specs.Body.{Extent};
 ghost use Rattle.bk_copying.specs.Extents.{extents_of};
 ghost use Rattle.bk_device.specs.Counts.{HasCause};
 ghost use Rattle.bk_device.specs.Effects.{Effect};
+ghost use Rattle.bk_device.specs.Troubles.{IsPassing};
 ghost use Rattle.bk_fields.specs.Guids.{IsGuid};
 ghost use Rattle.bk_hosted.specs.Hosted.{Hosted, names};
 ghost use Rattle.bk_hosting.specs.Asking.{AreDescribed};
@@ -22,8 +23,8 @@ ghost use Rattle.bk_engine.specs.Stands.{Covers, IsOurs, IsReady, IsStagingFile,
 ghost use Rattle.bk_engine.specs.Touched.{NoMedium, TouchesOnly};
 
 use crate::engine::Engine;
-use bk_copying::{CopyError, data_extents};
-use bk_device::Device;
+use bk_copying::data_extents;
+use bk_device::{Device, Trouble};
 use bk_ids::{ExtentId, Lsn};
 use bk_volume::Staged;
 use std::alloc::AllocError;
@@ -62,7 +63,7 @@ impl Engine {
         at: usize,
         staged: &mut Staged,
         extents: &[ExtentId],
-    ) -> Result<(), CopyError>
+    ) -> Result<(), Trouble>
         requires ready { IsReady self.old }
         requires inside { at < length self.old.hosting.states }
         requires there { HaveExtents self.old.hosting.stores.slots at extents.now }
@@ -84,7 +85,8 @@ impl Engine {
             → OnOk result ((told : Told) × IsToldOf w db told × HoldsCopies (D.disk dev.new) staged.new before told extents.now) }
         ensures crash { D.tells → (w : World) → StandsFor (D.disk dev.old) self.old w → Effect IsOurs (Covers w) (D.disk dev.old) (D.disk dev.new) }
         ensures touches { D.tells → TouchesOnly NoMedium (D.disk dev.old) (D.disk dev.new) }
-        ensures cause { HasCause D.disk_faults D.tell_faults dev.old dev.new (IsErrOf result CopyError.Fault) }
+        ensures trouble { IfErr result IsPassing }
+        ensures cause { HasCause D.disk_faults D.tell_faults dev.old dev.new (IsErrOf result Trouble.Fault) }
     {
         self.hosting
             .copy_extents(self.alloc, dev, at, staged, extents)
@@ -100,7 +102,7 @@ impl Engine {
         staged: &mut Staged,
         from: Lsn,
         to: Lsn,
-    ) -> Result<(), CopyError>
+    ) -> Result<(), Trouble>
         requires ready { IsReady self.now }
         requires inside { at < length self.now.hosting.states }
         requires standing { D.tells → AreStanding (D.disk dev.old) self.now.hosting.stores }
@@ -116,7 +118,8 @@ impl Engine {
             → OnOk result (HoldsLog (D.disk dev.new) staged.new extents before (log_of w.history db) from to) }
         ensures crash { D.tells → (w : World) → StandsFor (D.disk dev.old) self.now w → Effect IsOurs (Covers w) (D.disk dev.old) (D.disk dev.new) }
         ensures touches { D.tells → TouchesOnly NoMedium (D.disk dev.old) (D.disk dev.new) }
-        ensures cause { HasCause D.disk_faults D.tell_faults dev.old dev.new (IsErrOf result CopyError.Fault) }
+        ensures trouble { IfErr result IsPassing }
+        ensures cause { HasCause D.disk_faults D.tell_faults dev.old dev.new (IsErrOf result Trouble.Fault) }
     {
         self.hosting.copy_log(self.alloc, dev, at, staged, from, to)
     }

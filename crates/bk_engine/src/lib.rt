@@ -26,6 +26,5 @@ mod seating;
 mod staging;
 mod viewing;
 
-pub use bk_stores::StoresError;
 pub use engine::Engine;
 pub use running::Finishing;

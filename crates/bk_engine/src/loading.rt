@@ -18,22 +18,21 @@ use bk_device::Device;
 use bk_hosted::hosted_databases_follow_acts;
 use bk_hosting::Hosting;
 use bk_machine::runs_begin_and_end_in_sound_worlds;
-use bk_stores::StoresError;
+use bk_stores::LoadError;
 use std::alloc::Global;
 use std::thread::Threads;
 
 impl Engine {
-    /// Loads the instance whose files these are, or makes one with this number where none is made: a run begins. Of each database all is undone that was pending; a medium that was being made is finished, or
-    /// taken away where no blob of it was sealed; and what was being made or removed of databases, or written of a set, is removed. A crash leaves files that stand for the same world; then this call loads them.
-    /// Where nothing is to be finished, removed or undone the files stay as they are.
+    /// Loads the instance whose files these are, or makes one with this number where none is made: a run begins. What was pending is undone, what was being made, removed or written is finished or
+    /// removed; where there is nothing of this, the files stay. A crash leaves files that stand for the same world.
     ///
-    /// `NotAnInstance` is answered only where an instance is made and its control file holds no control, and `Broken` only where the files stand for no world. `NoMemory` may come after files were touched.
+    /// `NotAnInstance` comes only where a made instance has no control, `Broken` only where the files stand for no world; files may be changed at `NoMemory`.
     pub fn load<R: Threads + Sync, D: Device>(
         rt: &R,
         alloc: Global,
         dev: &mut D,
         number: u64,
-    ) -> Result<Engine, StoresError>
+    ) -> Result<Engine, LoadError>
         ensures ready { IfOk result IsReady }
         ensures none { IfOk result (λ e. (own_in e).staging ≡ None) }
         ensures exact { IfOk result (λ e. (own_in e).counter ≡ e.drawn) }
@@ -43,12 +42,12 @@ impl Engine {
         ensures touches { D.tells → TouchesOnly IsPath (D.disk dev.old) (D.disk dev.new) }
         ensures spares { D.tells → IsSettled (D.disk dev.old) → (w : World) (is : Stands number (D.disk dev.old).files w) → TouchesOnly (IsMadeAt is.own.making) (D.disk dev.old) (D.disk dev.new) }
         ensures made { D.tells → OnOk result (IsMade (D.disk dev.new).files) }
-        ensures no_instance { D.tells → IsNoInstance (D.disk dev.old).files → MatchResult result (λ _. ⊥) (λ e. e ≢ StoresError.Broken) }
-        ensures untouched { D.tells → IsErrOf result StoresError.NotAnInstance → ChangesNothing (D.disk dev.old) (D.disk dev.new) }
+        ensures no_instance { D.tells → IsNoInstance (D.disk dev.old).files → MatchResult result (λ _. ⊥) (λ e. e ≢ LoadError.Broken) }
+        ensures untouched { D.tells → IsErrOf result LoadError.NotAnInstance → ChangesNothing (D.disk dev.old) (D.disk dev.new) }
         ensures still { D.tells → IsSettled (D.disk dev.old) → AreQuiet (D.disk dev.old).files → OnOk result (ChangesNothing (D.disk dev.old) (D.disk dev.new)) }
-        ensures not_an_instance { D.tells → IsErrOf result StoresError.NotAnInstance → IsNoInstance (D.disk dev.old).files }
-        ensures broken { D.tells → IsErrOf result StoresError.Broken → IsSettled (D.disk dev.old) → (w : World) → Stands number (D.disk dev.old).files w → ⊥ }
-        ensures cause { HasCause D.disk_faults D.tell_faults dev.old dev.new (IsErrOf result StoresError.Fault) }
+        ensures not_an_instance { D.tells → IsErrOf result LoadError.NotAnInstance → IsNoInstance (D.disk dev.old).files }
+        ensures broken { D.tells → IsErrOf result LoadError.Broken → IsSettled (D.disk dev.old) → (w : World) → Stands number (D.disk dev.old).files w → ⊥ }
+        ensures cause { HasCause D.disk_faults D.tell_faults dev.old dev.new (IsErrOf result LoadError.Fault) }
     {
         hosted_databases_follow_acts();
         runs_begin_and_end_in_sound_worlds();

@@ -3,11 +3,11 @@ ghost use Rattle.std.specs.Prelude.{◌≡◌, List, IfErr, OnOk, IsErrOf};
 ghost use Rattle.std.specs.List.{AllByRecursion};
 ghost use Rattle.bk_device.specs.Counts.{HasCause};
 ghost use Rattle.bk_device.specs.Effects.{Effect};
+ghost use Rattle.bk_device.specs.Troubles.{IsPassing};
 ghost use Rattle.bk_ids.specs.declared.record.Rec.{Rec as Recs};
 ghost use Rattle.bk_machine.specs.Acts.{done, logged};
 ghost use Rattle.bk_machine.specs.World.{World};
 ghost use Rattle.bk_record.specs.Spelling.{KeepsLimits};
-ghost use Rattle.bk_stores.specs.Errors.{IsTrouble};
 ghost use Rattle.bk_stores.specs.Standing.{AreStanding};
 ghost use Rattle.bk_world.specs.Records.{Said};
 ghost use Rattle.bk_ids.specs.declared.guid.Guid.{Guid};
@@ -17,18 +17,17 @@ ghost use Rattle.bk_engine.specs.Stands.{IsOurs, IsReady, NamesSet, StandsFor, o
 ghost use Rattle.bk_engine.specs.Touched.{NoMedium, TouchesOnly};
 
 use crate::engine::Engine;
-use bk_device::Device;
+use bk_device::{Device, Trouble};
 use bk_hosted::hosted_databases_follow_acts;
 use bk_ids::{Rec, Sequence};
 use bk_machine::{acts_keep_worlds_sound, sets_that_stay};
-use bk_stores::StoresError;
 use bk_world::Open;
 
 impl Engine {
-    /// The database of this name says these records at its end, and then these transactions are open. Where it is to last, all that it has said is durable then; else it waits in memory. A crash leaves the world
-    /// before it, but for what waited, or the one behind a front of what is said.
+    /// The database of this name says these records, and then these transactions are open. Where it is to last, all that it has said is durable then; else it waits in memory. A crash leaves the world before it,
+    /// but for what waited, or the one behind a front of what is said.
     ///
-    /// Only `Fault` and `NoMemory` are answered. Where there is no database of this name, or it is being restored, or may not say this, the call ends as if memory were wanting.
+    /// Only `Fault` and `NoMemory` are answered: `NoMemory` too where there is no such database, it is being restored, or may not say this.
     pub fn log<D: Device>(
         &mut self,
         dev: &mut D,
@@ -36,7 +35,7 @@ impl Engine {
         records: &[Rec],
         transactions: Sequence<Open>,
         lasting: bool,
-    ) -> Result<(), StoresError>
+    ) -> Result<(), Trouble>
         requires ready { IsReady self.old }
         requires limits { AllByRecursion (λ (r : Recs). KeepsLimits r.body) records.now }
         requires standing { D.tells → AreStanding (D.disk dev.old) self.old.hosting.stores }
@@ -47,15 +46,15 @@ impl Engine {
         ensures crash { D.tells → (w : World) (said : List Said) → StandsFor (D.disk dev.old) self.old w → MaySayIn w name.now said transactions records.now lasting → Effect IsOurs (CutsSaying w name.now said transactions) (D.disk dev.old) (D.disk dev.new) }
         ensures touches { D.tells → TouchesOnly NoMedium (D.disk dev.old) (D.disk dev.new) }
         ensures sets { D.tells → (set : Guid) → (D.disk dev.new).files (staging_file set) ≡ (D.disk dev.old).files (staging_file set) }
-        ensures trouble { IfErr result IsTrouble }
-        ensures cause { HasCause D.disk_faults D.tell_faults dev.old dev.new (IsErrOf result StoresError.Fault) }
+        ensures trouble { IfErr result IsPassing }
+        ensures cause { HasCause D.disk_faults D.tell_faults dev.old dev.new (IsErrOf result Trouble.Fault) }
     {
         acts_keep_worlds_sound();
         hosted_databases_follow_acts();
         sets_that_stay();
         let Some(at) = self.hosting.find(name) else {
             self.hosting.at_rest(dev);
-            return Err(StoresError::NoMemory);
+            return Err(Trouble::NoMemory);
         };
         self.hosting
             .log(self.alloc, dev, at, records, transactions, lasting)

@@ -1,18 +1,15 @@
 // Media are made.
-ghost use Rattle.std.specs.Prelude.{◌≡◌, ◌≤◌, ◌+◌, Option, List, ℕ, None, Some, IfErr, IfOk, OnOk, IsErrOf};
-ghost use Rattle.bk_archive.specs.Calls.{HasMade, LeavesMaking};
-ghost use Rattle.bk_archive.specs.Media.{IfDurable, IsMediumFile, KeepsMedia, MediaAreDurable};
+ghost use Rattle.std.specs.Prelude.{◌≡◌, ◌≤◌, ◌+◌, Option, None, Some, IfErr, IfOk, OnOk, IsErrOf};
+ghost use Rattle.bk_archive.specs.Media.{KeepsMedia};
 ghost use Rattle.bk_bytes.specs.Field.{AreBytes};
 ghost use Rattle.bk_device.specs.Counts.{HasCause};
-ghost use Rattle.bk_device.specs.Effects.{Effect, IsName};
-ghost use Rattle.bk_hosted.specs.Hosted.{Hosts};
+ghost use Rattle.bk_device.specs.Effects.{Effect};
+ghost use Rattle.bk_device.specs.Troubles.{IsPassing};
 ghost use Rattle.bk_hosting.specs.Hosting.{IsReady as AreReady};
 ghost use Rattle.bk_machine.specs.Acts.{done, medium_made};
 ghost use Rattle.bk_machine.specs.World.{World};
 ghost use Rattle.bk_master.specs.Spelling.{IsShort};
-ghost use Rattle.bk_stores.specs.Errors.{IsTrouble};
 ghost use Rattle.bk_stores.specs.Standing.{AreStanding};
-ghost use Rattle.bk_volume.specs.Names.{medium_file};
 ghost use Rattle.bk_world.specs.Medium.{medium_at};
 ghost use Rattle.bk_engine.specs.Acts.{CutsAct};
 ghost use Rattle.bk_engine.specs.Amid.{Amid};
@@ -21,13 +18,12 @@ ghost use Rattle.bk_engine.specs.Touched.{IsAt, NoMedium, TouchesOnly};
 
 use crate::engine::Engine;
 use crate::staging::copied_sets;
-use bk_archive::{ArchiveError, make_medium, media_stay};
-use bk_device::Device;
+use bk_archive::{make_medium, media_stay};
+use bk_device::{Device, Trouble};
 use bk_hosted::hosted_databases_follow_acts;
 use bk_ids::Text;
 use bk_machine::acts_keep_worlds_sound;
 use bk_master::Own;
-use bk_stores::StoresError;
 use std::alloc::{AllocError, Global};
 
 // A path is bytes.
@@ -45,29 +41,9 @@ fn copy_path(alloc: Global, path: &Text) -> Result<Text, AllocError>
     Ok(Text::new(copy))
 }
 
-// Makes a medium without sets at this path.
-fn make_at<D: Device>(alloc: Global, dev: &mut D, path: &Text) -> Result<(), StoresError>
-    ensures made { D.tells → OnOk result (HasMade path.now (D.disk dev.old).files (D.disk dev.new).files) }
-    ensures calm { D.tells → MediaAreDurable (D.disk dev.old) → OnOk result (MediaAreDurable (D.disk dev.new)) }
-    ensures crash { D.tells → Effect IsMediumFile (IfDurable (D.disk dev.old) (LeavesMaking path.now (D.disk dev.old).files)) (D.disk dev.old) (D.disk dev.new) }
-    ensures spares { D.tells → Effect (IsName (medium_file path.now)) (λ image. Unit {0}) (D.disk dev.old) (D.disk dev.new) }
-    ensures trouble { IfErr result IsTrouble }
-    ensures cause { HasCause D.disk_faults D.tell_faults dev.old dev.new (IsErrOf result StoresError.Fault) }
-{
-    match make_medium(alloc, dev, path) {
-        Ok(()) => Ok(()),
-        Err(ArchiveError::Fault) => Err(StoresError::Fault),
-        Err(ArchiveError::NoMemory) => Err(StoresError::NoMemory),
-    }
-}
-
 impl Engine {
     // The record names this medium as being made, or none.
-    fn name_making<D: Device>(
-        &mut self,
-        dev: &mut D,
-        making: Option<Text>,
-    ) -> Result<(), StoresError>
+    fn name_making<D: Device>(&mut self, dev: &mut D, making: Option<Text>) -> Result<(), Trouble>
         requires ready { AreReady self.old.hosting }
         requires short { IsShort making }
         requires standing { D.tells → AreStanding (D.disk dev.old) self.old.hosting.stores }
@@ -78,8 +54,8 @@ impl Engine {
         ensures stands { D.tells → (w : World) → Amid (D.disk dev.old) self.old.hosting w → KeepsMedia w making (D.disk dev.old).files → OnOk result (Amid (D.disk dev.new) self.new.hosting w) }
         ensures crash { D.tells → (w : World) → Amid (D.disk dev.old) self.old.hosting w → KeepsMedia w making (D.disk dev.old).files → Effect IsOurs (Covers w) (D.disk dev.old) (D.disk dev.new) }
         ensures touches { D.tells → TouchesOnly NoMedium (D.disk dev.old) (D.disk dev.new) }
-        ensures trouble { IfErr result IsTrouble }
-        ensures cause { HasCause D.disk_faults D.tell_faults dev.old dev.new (IsErrOf result StoresError.Fault) }
+        ensures trouble { IfErr result IsPassing }
+        ensures cause { HasCause D.disk_faults D.tell_faults dev.old dev.new (IsErrOf result Trouble.Fault) }
     {
         self.hosting.at_rest(dev);
         let own = self.hosting.own();
@@ -95,7 +71,7 @@ impl Engine {
     }
 
     // Makes the medium that the record names, where there is none.
-    fn make_named<D: Device>(&self, dev: &mut D, path: &Text) -> Result<(), StoresError>
+    fn make_named<D: Device>(&self, dev: &mut D, path: &Text) -> Result<(), Trouble>
         requires standing { D.tells → AreStanding (D.disk dev.old) self.now.hosting.stores }
         ensures standing { D.tells → AreStanding (D.disk dev.new) self.now.hosting.stores }
         ensures stands { D.tells → (w : World) → Amid (D.disk dev.old) self.now.hosting w → (own_in self.now).making ≡ Some path.now → w.counter + 1 ≤ (own_in self.now).counter → medium_at w.media path.now ≡ None
@@ -103,19 +79,19 @@ impl Engine {
         ensures crash { D.tells → (w : World) → Amid (D.disk dev.old) self.now.hosting w → (own_in self.now).making ≡ Some path.now → w.counter + 1 ≤ (own_in self.now).counter → medium_at w.media path.now ≡ None
             → Effect IsOurs (CutsAct w (medium_made path.now)) (D.disk dev.old) (D.disk dev.new) }
         ensures touches { D.tells → TouchesOnly (IsAt path.now) (D.disk dev.old) (D.disk dev.new) }
-        ensures trouble { IfErr result IsTrouble }
-        ensures cause { HasCause D.disk_faults D.tell_faults dev.old dev.new (IsErrOf result StoresError.Fault) }
+        ensures trouble { IfErr result IsPassing }
+        ensures cause { HasCause D.disk_faults D.tell_faults dev.old dev.new (IsErrOf result Trouble.Fault) }
     {
         hosted_databases_follow_acts();
         path_law(path);
         self.hosting.at_rest(dev);
-        make_at(self.alloc, dev, path)
+        make_medium(self.alloc, dev, path)
     }
 
     /// Makes a medium without sets at a path of 1 to 100 bytes, where there is none. A crash leaves the world before it, but for what waited, or the one behind it.
     ///
     /// Only `Fault` and `NoMemory` are answered. Where all GUIDs are used up, the call ends as if memory were wanting.
-    pub fn make_medium<D: Device>(&mut self, dev: &mut D, path: &Text) -> Result<(), StoresError>
+    pub fn make_medium<D: Device>(&mut self, dev: &mut D, path: &Text) -> Result<(), Trouble>
         requires ready { IsReady self.old }
         requires short { IsShort (Some path.now) }
         requires standing { D.tells → AreStanding (D.disk dev.old) self.old.hosting.stores }
@@ -125,8 +101,8 @@ impl Engine {
         ensures stands { D.tells → (w : World) → StandsFor (D.disk dev.old) self.old w → medium_at w.media path.now ≡ None → OnOk result (StandsFor (D.disk dev.new) self.new (done w (medium_made path.now))) }
         ensures crash { D.tells → (w : World) → StandsFor (D.disk dev.old) self.old w → medium_at w.media path.now ≡ None → Effect IsOurs (CutsAct w (medium_made path.now)) (D.disk dev.old) (D.disk dev.new) }
         ensures touches { D.tells → TouchesOnly (IsAt path.now) (D.disk dev.old) (D.disk dev.new) }
-        ensures trouble { IfErr result IsTrouble }
-        ensures cause { HasCause D.disk_faults D.tell_faults dev.old dev.new (IsErrOf result StoresError.Fault) }
+        ensures trouble { IfErr result IsPassing }
+        ensures cause { HasCause D.disk_faults D.tell_faults dev.old dev.new (IsErrOf result Trouble.Fault) }
     {
         acts_keep_worlds_sound();
         media_stay();

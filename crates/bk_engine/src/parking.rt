@@ -2,12 +2,12 @@
 ghost use Rattle.std.specs.Prelude.{◌≡◌, None, IfErr, IfOk, OnOk, IsErrOf};
 ghost use Rattle.bk_device.specs.Counts.{HasCause};
 ghost use Rattle.bk_device.specs.Effects.{Effect};
+ghost use Rattle.bk_device.specs.Troubles.{IsPassing};
 ghost use Rattle.bk_hosted.specs.Hosted.{parked_points};
 ghost use Rattle.bk_known.specs.Known.{KeepsKnown};
 ghost use Rattle.bk_machine.specs.Acts.{done, file_units, replaced};
 ghost use Rattle.bk_machine.specs.MayDo.{MayDo};
 ghost use Rattle.bk_machine.specs.World.{World};
-ghost use Rattle.bk_stores.specs.Errors.{IsTrouble};
 ghost use Rattle.bk_stores.specs.Standing.{AreStanding};
 ghost use Rattle.bk_engine.specs.Acts.{CutsAct, IsSetKnown};
 ghost use Rattle.bk_engine.specs.Stands.{IsOurs, IsReady, NamesSet, StandsFor, own_in};
@@ -15,13 +15,12 @@ ghost use Rattle.bk_engine.specs.Touched.{NoMedium, TouchesOnly};
 
 use crate::engine::Engine;
 use bk_archive::acts_keep_media;
-use bk_device::Device;
+use bk_device::{Device, Trouble};
 use bk_hosted::hosted_databases_follow_restores;
 use bk_ids::{Sequence, UnitId};
 use bk_known::Known;
 use bk_machine::acts_keep_worlds_sound;
 use bk_points::Points;
-use bk_stores::StoresError;
 use bk_world::{Header, HeaderFile, State, Status, Unit};
 use std::alloc::{AllocError, Global};
 
@@ -72,7 +71,7 @@ impl Engine {
         dev: &mut D,
         known: Known,
         header: &Header,
-    ) -> Result<(), StoresError>
+    ) -> Result<(), Trouble>
         requires ready { IsReady self.old }
         requires keeps { KeepsKnown known }
         requires standing { D.tells → AreStanding (D.disk dev.old) self.old.hosting.stores }
@@ -84,8 +83,8 @@ impl Engine {
         ensures crash { D.tells → (w : World) → StandsFor (D.disk dev.old) self.old w → MayDo w (replaced known.spec.name header.now) → IsSetKnown w header.now known
             → Effect IsOurs (CutsAct w (replaced known.spec.name header.now)) (D.disk dev.old) (D.disk dev.new) }
         ensures touches { D.tells → TouchesOnly NoMedium (D.disk dev.old) (D.disk dev.new) }
-        ensures trouble { IfErr result IsTrouble }
-        ensures cause { HasCause D.disk_faults D.tell_faults dev.old dev.new (IsErrOf result StoresError.Fault) }
+        ensures trouble { IfErr result IsPassing }
+        ensures cause { HasCause D.disk_faults D.tell_faults dev.old dev.new (IsErrOf result Trouble.Fault) }
     {
         acts_keep_media();
         acts_keep_worlds_sound();

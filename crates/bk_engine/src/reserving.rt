@@ -3,17 +3,16 @@ ghost use Rattle.std.specs.Prelude.{◌≡◌, ◌≤◌, ◌<◌, ◌+◌, ◌^
 ghost use Rattle.bk_archive.specs.MediaLaws.{SameFiles};
 ghost use Rattle.bk_device.specs.Counts.{HasCause};
 ghost use Rattle.bk_device.specs.Effects.{Effect};
+ghost use Rattle.bk_device.specs.Troubles.{IsPassing};
 ghost use Rattle.bk_machine.specs.World.{World};
-ghost use Rattle.bk_stores.specs.Errors.{IsTrouble};
 ghost use Rattle.bk_stores.specs.Standing.{AreStanding};
 ghost use Rattle.bk_engine.specs.Stands.{Covers, IsOurs, IsReady, NamesSet, StandsFor, own_in};
 ghost use Rattle.bk_engine.specs.Touched.{NoMedium, TouchesOnly};
 
 use crate::engine::Engine;
 use crate::staging::copied_sets;
-use bk_device::Device;
+use bk_device::{Device, Trouble};
 use bk_master::Own;
-use bk_stores::StoresError;
 
 // GUIDs from here on, 2^62 - 2^32, are kept for what is never refused.
 const KEPT_NUMBERS: u64 = 4_611_686_014_132_420_608;
@@ -23,7 +22,7 @@ const MORE: u64 = 1024;
 
 impl Engine {
     // Reserves so many GUIDs beyond those that were drawn, at most 2, where they aren't reserved yet. Where all are used up the call ends as if memory were wanting.
-    pub(crate) fn reserve<D: Device>(&mut self, dev: &mut D, n: u64) -> Result<(), StoresError>
+    pub(crate) fn reserve<D: Device>(&mut self, dev: &mut D, n: u64) -> Result<(), Trouble>
         requires ready { IsReady self.old }
         requires few { n ≤ 2 }
         requires standing { D.tells → AreStanding (D.disk dev.old) self.old.hosting.stores }
@@ -38,12 +37,12 @@ impl Engine {
         ensures crash { D.tells → (w : World) → StandsFor (D.disk dev.old) self.old w → Effect IsOurs (Covers w) (D.disk dev.old) (D.disk dev.new) }
         ensures touches { D.tells → TouchesOnly NoMedium (D.disk dev.old) (D.disk dev.new) }
         ensures media { D.tells → (w : World) → StandsFor (D.disk dev.old) self.old w → SameFiles (D.disk dev.old).files (D.disk dev.new).files }
-        ensures trouble { IfErr result IsTrouble }
-        ensures cause { HasCause D.disk_faults D.tell_faults dev.old dev.new (IsErrOf result StoresError.Fault) }
+        ensures trouble { IfErr result IsPassing }
+        ensures cause { HasCause D.disk_faults D.tell_faults dev.old dev.new (IsErrOf result Trouble.Fault) }
     {
         self.hosting.at_rest(dev);
         if self.drawn >= KEPT_NUMBERS {
-            return Err(StoresError::NoMemory);
+            return Err(Trouble::NoMemory);
         }
         let own = self.hosting.own();
         if self.drawn + n <= own.counter {

@@ -1,13 +1,12 @@
 // Backups that run beside the sessions.
-ghost use Rattle.std.specs.Prelude.{◌≡◌, ◌<◌, ◌≤◌, ◌+◌, ◌-◌, ◌^◌, [], false, drop, length, slice_get, List, ℕ, None, Some, map, IfErr, IfOk, IfSome, OnOk, IsErrOf, if◌then◌else◌};
+ghost use Rattle.std.specs.Prelude.{◌≡◌, ◌<◌, ◌≤◌, ◌-◌, [], false, drop, length, List, ℕ, None, Some, IfErr, IfOk, IfSome, OnOk, IsErrOf, if◌then◌else◌};
 ghost use Rattle.std.specs.List.{AllByRecursion, position};
-ghost use Rattle.bk_body.specs.Body.{Extent};
 ghost use Rattle.bk_device.specs.Counts.{HasCause};
 ghost use Rattle.bk_device.specs.Effects.{Effect};
+ghost use Rattle.bk_device.specs.Troubles.{IsPassing};
 ghost use Rattle.bk_hosted.specs.Hosted.{Hosted, names};
 ghost use Rattle.bk_fields.specs.Guids.{IsGuid};
 ghost use Rattle.bk_hosting.specs.Asking.{AreDescribed};
-ghost use Rattle.bk_hosting.specs.Copying.{HaveExtents, HoldsCopies};
 ghost use Rattle.bk_ids.specs.declared.guid.Guid.{Guid as Guids};
 ghost use Rattle.bk_ids.specs.declared.record.Rec.{Rec as Recs};
 ghost use Rattle.bk_kept.specs.Jobs.{IsApart};
@@ -18,29 +17,24 @@ ghost use Rattle.bk_machine.specs.MayDo.{MayDo};
 ghost use Rattle.bk_machine.specs.Sound.{JobIs};
 ghost use Rattle.bk_machine.specs.World.{Database, World, database_named, log_of};
 ghost use Rattle.bk_record.specs.Spelling.{KeepsLimits};
-ghost use Rattle.bk_store.specs.Told.{Told};
-ghost use Rattle.bk_stores.specs.Errors.{IsTrouble};
 ghost use Rattle.bk_stores.specs.Standing.{AreStanding};
-ghost use Rattle.bk_volume.specs.Names.{staging_file};
 ghost use Rattle.bk_volume.specs.Staging.{HoldsParts, IsStaged};
 ghost use Rattle.bk_world.specs.declared.database.Status.TheVariants.{Online};
 ghost use Rattle.bk_world.specs.Records.{Said};
 ghost use Rattle.bk_engine.specs.Acts.{CutsAct};
 ghost use Rattle.bk_engine.specs.Copied.{staging_of};
-ghost use Rattle.bk_engine.specs.Copying.{HoldsFront, IsCopiedOf, IsToldOf};
+ghost use Rattle.bk_engine.specs.Copying.{HoldsFront, IsCopiedOf};
 ghost use Rattle.bk_engine.specs.Jobs.{CutsEnding, EndsSet, IsFinishing, StartsSet, StepsSet, ending, Finishing as KeptFinishing};
-ghost use Rattle.bk_engine.specs.Stands.{Covers, IsOurs, IsReady, IsStagingFile, NamesSet, StandsFor, own_in};
+ghost use Rattle.bk_engine.specs.Stands.{Covers, IsOurs, IsReady, NamesSet, StandsFor, own_in};
 ghost use Rattle.bk_engine.specs.Touched.{NoMedium, TouchesOnly};
 ghost use Rattle.bk_engine.specs.Viewing.{Remembers};
 
 use crate::engine::Engine;
 use crate::finishing::remove_sets;
-use bk_copying::CopyError;
-use bk_device::Device;
+use bk_device::{Device, Trouble};
 use bk_hosted::hosted_databases_follow_acts;
 use bk_ids::{ExtentId, Guid, Rec, Sequence};
 use bk_machine::{Job, acts_keep_worlds_sound, what_is_said_comes_last};
-use bk_stores::StoresError;
 use bk_volume::Staged;
 use bk_world::Open;
 use std::alloc::{AllocError, Global};
@@ -97,7 +91,7 @@ impl Engine {
         dev: &mut D,
         name: &str,
         job: Option<Job>,
-    ) -> Result<(), StoresError>
+    ) -> Result<(), Trouble>
         requires ready { IsReady self.old }
         requires standing { D.tells → AreStanding (D.disk dev.old) self.old.hosting.stores }
         ensures same { dev.new ≡ dev.old }
@@ -105,20 +99,20 @@ impl Engine {
         ensures own { OnOk result (own_in self.new ≡ own_in self.old) }
         ensures standing { D.tells → OnOk result (AreStanding (D.disk dev.new) self.new.hosting.stores) }
         ensures stands { D.tells → (w : World) → StandsFor (D.disk dev.old) self.old w → MayDo w (job_set name.now job) → JobIs (IsCopiedOf w name.now (D.disk dev.old)) job → OnOk result (StandsFor (D.disk dev.new) self.new (done w (job_set name.now job))) }
-        ensures trouble { IfErr result IsTrouble }
-        ensures no_fault { IsErrOf result StoresError.Fault → ⊥ }
+        ensures trouble { IfErr result IsPassing }
+        ensures no_fault { IsErrOf result Trouble.Fault → ⊥ }
     {
         acts_keep_worlds_sound();
         hosted_databases_follow_acts();
         let Some(at) = self.hosting.find(name) else {
-            return Err(StoresError::NoMemory);
+            return Err(Trouble::NoMemory);
         };
         self.hosting.set_job(at, job);
         Ok(())
     }
 
     // The record names this set as being copied, and nothing is in its file. The world stays.
-    fn begin_copying<D: Device>(&mut self, dev: &mut D, set: Guid) -> Result<(), StoresError>
+    fn begin_copying<D: Device>(&mut self, dev: &mut D, set: Guid) -> Result<(), Trouble>
         requires ready { IsReady self.old }
         requires standing { D.tells → AreStanding (D.disk dev.old) self.old.hosting.stores }
         ensures guid { IsGuid set }
@@ -129,8 +123,8 @@ impl Engine {
         ensures stands { D.tells → (w : World) → StandsFor (D.disk dev.old) self.old w → IsApart w set → OnOk result (StandsFor (D.disk dev.new) self.new w) }
         ensures crash { D.tells → (w : World) → StandsFor (D.disk dev.old) self.old w → Effect IsOurs (Covers w) (D.disk dev.old) (D.disk dev.new) }
         ensures touches { D.tells → TouchesOnly NoMedium (D.disk dev.old) (D.disk dev.new) }
-        ensures trouble { IfErr result IsTrouble }
-        ensures cause { HasCause D.disk_faults D.tell_faults dev.old dev.new (IsErrOf result StoresError.Fault) }
+        ensures trouble { IfErr result IsPassing }
+        ensures cause { HasCause D.disk_faults D.tell_faults dev.old dev.new (IsErrOf result Trouble.Fault) }
     {
         self.name_copying(dev, set)?;
         self.begin_staged(dev, set)?;
@@ -140,12 +134,7 @@ impl Engine {
     /// This backup of the database of this name starts: its set is begun, with no extent and no log. A crash leaves the world before it, but for what waited, or the one behind it.
     ///
     /// Only `Fault` and `NoMemory` are answered. Where there is no database of this name, the call ends as if memory were wanting.
-    pub fn start_set<D: Device>(
-        &mut self,
-        dev: &mut D,
-        name: &str,
-        job: Job,
-    ) -> Result<(), StoresError>
+    pub fn start_set<D: Device>(&mut self, dev: &mut D, name: &str, job: Job) -> Result<(), Trouble>
         requires ready { IsReady self.old }
         requires standing { D.tells → AreStanding (D.disk dev.old) self.old.hosting.stores }
         ensures ready { OnOk result (IsReady self.new) }
@@ -154,48 +143,12 @@ impl Engine {
         ensures stands { D.tells → (w : World) → StandsFor (D.disk dev.old) self.old w → StartsSet w name.now job → OnOk result (StandsFor (D.disk dev.new) self.new (done w (job_set name.now (Some job)))) }
         ensures crash { D.tells → (w : World) → StandsFor (D.disk dev.old) self.old w → StartsSet w name.now job → Effect IsOurs (CutsAct w (job_set name.now (Some job))) (D.disk dev.old) (D.disk dev.new) }
         ensures touches { D.tells → TouchesOnly NoMedium (D.disk dev.old) (D.disk dev.new) }
-        ensures trouble { IfErr result IsTrouble }
-        ensures cause { HasCause D.disk_faults D.tell_faults dev.old dev.new (IsErrOf result StoresError.Fault) }
+        ensures trouble { IfErr result IsPassing }
+        ensures cause { HasCause D.disk_faults D.tell_faults dev.old dev.new (IsErrOf result Trouble.Fault) }
     {
         self.begin_copying(dev, job.set)?;
         self.at_rest(dev);
         self.put_job(dev, name, Some(job))
-    }
-
-    // Copies these data extents of the database at this place, which counts from 0, into a set that has no log. The world stays.
-    fn copy_on<D: Device>(
-        &mut self,
-        dev: &mut D,
-        at: usize,
-        staged: &mut Staged,
-        extents: &[ExtentId],
-    ) -> Result<(), StoresError>
-        requires ready { IsReady self.old }
-        requires inside { at < length self.old.hosting.states }
-        requires there { HaveExtents self.old.hosting.stores.slots at extents.now }
-        requires standing { D.tells → AreStanding (D.disk dev.old) self.old.hosting.stores }
-        requires sound { staged.old.failed ≡ false }
-        requires named { IsStagingFile staged.old.name }
-        requires first { staged.old.log ≡ 0 }
-        requires few { staged.old.extents + length extents.now < 2 ^ 32 }
-        requires staged { D.tells → IsStaged (D.disk dev.old) staged.old }
-        ensures ready { OnOk result (IsReady self.new) }
-        ensures own { OnOk result (NamesSet (own_in self.old).staging self.old self.new) }
-        ensures counted { OnOk result (staged.new ≡ record staged.old { extents = staged.old.extents + length extents.now }) }
-        ensures standing { D.tells → OnOk result (AreStanding (D.disk dev.new) self.new.hosting.stores) }
-        ensures stands { D.tells → (w : World) → StandsFor (D.disk dev.old) self.old w → (set : Guids) → IsGuid set → staged.old.name ≡ staging_file set → IsApart w set → OnOk result (StandsFor (D.disk dev.new) self.new w) }
-        ensures added { D.tells → (w : World) (db : Database) → StandsFor (D.disk dev.old) self.old w → slice_get w.databases at ≡ Some db → (before : List Extent) → HoldsParts (D.disk dev.old) staged.old before []
-            → OnOk result ((told : Told) × IsToldOf w db told × HoldsCopies (D.disk dev.new) staged.new before told extents.now) }
-        ensures crash { D.tells → (w : World) → StandsFor (D.disk dev.old) self.old w → Effect IsOurs (Covers w) (D.disk dev.old) (D.disk dev.new) }
-        ensures touches { D.tells → TouchesOnly NoMedium (D.disk dev.old) (D.disk dev.new) }
-        ensures trouble { IfErr result IsTrouble }
-        ensures cause { HasCause D.disk_faults D.tell_faults dev.old dev.new (IsErrOf result StoresError.Fault) }
-    {
-        match self.copy_extents(dev, at, staged, extents) {
-            Ok(()) => Ok(()),
-            Err(CopyError::Fault) => Err(StoresError::Fault),
-            Err(CopyError::NoMemory) => Err(StoresError::NoMemory),
-        }
     }
 
     // Of the database of this name so many data extents are left to be copied into this set: copies them, but for the last of them, of which there are as many as `rest`. The world stays.
@@ -206,7 +159,7 @@ impl Engine {
         set: Guid,
         left: usize,
         rest: usize,
-    ) -> Result<(), StoresError>
+    ) -> Result<(), Trouble>
         requires ready { IsReady self.old }
         requires standing { D.tells → AreStanding (D.disk dev.old) self.old.hosting.stores }
         ensures guid { IsGuid set }
@@ -218,20 +171,20 @@ impl Engine {
             → OnOk result (IsCopiedOf w name.now (D.disk dev.new) (stepped (left - rest) job)) }
         ensures crash { D.tells → (w : World) → StandsFor (D.disk dev.old) self.old w → Effect IsOurs (Covers w) (D.disk dev.old) (D.disk dev.new) }
         ensures touches { D.tells → TouchesOnly NoMedium (D.disk dev.old) (D.disk dev.new) }
-        ensures trouble { IfErr result IsTrouble }
-        ensures cause { HasCause D.disk_faults D.tell_faults dev.old dev.new (IsErrOf result StoresError.Fault) }
+        ensures trouble { IfErr result IsPassing }
+        ensures cause { HasCause D.disk_faults D.tell_faults dev.old dev.new (IsErrOf result Trouble.Fault) }
     {
         self.at_rest(dev);
         let Some(at) = self.find(name) else {
-            return Err(StoresError::NoMemory);
+            return Err(Trouble::NoMemory);
         };
         let all = self.extents(dev, at)?;
         if left > all.len() || rest > left {
-            return Err(StoresError::NoMemory);
+            return Err(Trouble::NoMemory);
         }
         let from = all.len() - left;
         let mut staged = self.take_up(dev, set, from as u32)?;
-        self.copy_on(dev, at, &mut staged, &all[from..all.len() - rest])
+        self.copy_extents(dev, at, &mut staged, &all[from..all.len() - rest])
     }
 
     /// So many more of the extents that are left to the backup of the database of this name are copied, or all that are left, each as of the database's end. A crash leaves the world before it, but for what waited.
@@ -242,7 +195,7 @@ impl Engine {
         dev: &mut D,
         name: &str,
         count: u64,
-    ) -> Result<(), StoresError>
+    ) -> Result<(), Trouble>
         requires ready { IsReady self.old }
         requires standing { D.tells → AreStanding (D.disk dev.old) self.old.hosting.stores }
         ensures ready { OnOk result (IsReady self.new) }
@@ -251,12 +204,12 @@ impl Engine {
         ensures stands { D.tells → (w : World) (job : Jobs) → StandsFor (D.disk dev.old) self.old w → StepsSet w name.now count job → OnOk result (StandsFor (D.disk dev.new) self.new (done w (job_set name.now (Some (stepped count job))))) }
         ensures crash { D.tells → (w : World) (job : Jobs) → StandsFor (D.disk dev.old) self.old w → StepsSet w name.now count job → Effect IsOurs (Covers w) (D.disk dev.old) (D.disk dev.new) }
         ensures touches { D.tells → TouchesOnly NoMedium (D.disk dev.old) (D.disk dev.new) }
-        ensures trouble { IfErr result IsTrouble }
-        ensures cause { HasCause D.disk_faults D.tell_faults dev.old dev.new (IsErrOf result StoresError.Fault) }
+        ensures trouble { IfErr result IsPassing }
+        ensures cause { HasCause D.disk_faults D.tell_faults dev.old dev.new (IsErrOf result Trouble.Fault) }
     {
         self.at_rest(dev);
         let Some(job) = self.job_named(name) else {
-            return Err(StoresError::NoMemory);
+            return Err(Trouble::NoMemory);
         };
         let next = job.copy_after(self.alloc, count)?;
         let left = job.left.as_slice().len();
@@ -267,7 +220,7 @@ impl Engine {
     }
 
     // No backup of the database of this name runs any more. Gives its set, which the record names from now on, and how many extents weren't copied.
-    fn stop_job<D: Device>(&mut self, dev: &mut D, name: &str) -> Result<(Guid, usize), StoresError>
+    fn stop_job<D: Device>(&mut self, dev: &mut D, name: &str) -> Result<(Guid, usize), Trouble>
         requires ready { IsReady self.old }
         requires standing { D.tells → AreStanding (D.disk dev.old) self.old.hosting.stores }
         ensures ready { OnOk result (IsReady self.new) }
@@ -278,12 +231,12 @@ impl Engine {
         ensures stands { D.tells → (w : World) → StandsFor (D.disk dev.old) self.old w → OnOk result (StandsFor (D.disk dev.new) self.new (done w (job_set name.now None))) }
         ensures crash { D.tells → (w : World) → StandsFor (D.disk dev.old) self.old w → Effect IsOurs (Covers w) (D.disk dev.old) (D.disk dev.new) }
         ensures touches { D.tells → TouchesOnly NoMedium (D.disk dev.old) (D.disk dev.new) }
-        ensures trouble { IfErr result IsTrouble }
-        ensures cause { HasCause D.disk_faults D.tell_faults dev.old dev.new (IsErrOf result StoresError.Fault) }
+        ensures trouble { IfErr result IsPassing }
+        ensures cause { HasCause D.disk_faults D.tell_faults dev.old dev.new (IsErrOf result Trouble.Fault) }
     {
         self.at_rest(dev);
         let Some(job) = self.job_named(name) else {
-            return Err(StoresError::NoMemory);
+            return Err(Trouble::NoMemory);
         };
         let set = job.set;
         let left = job.left.as_slice().len();
@@ -299,7 +252,7 @@ impl Engine {
         name: &str,
         set: Guid,
         left: usize,
-    ) -> Result<Finishing, StoresError>
+    ) -> Result<Finishing, Trouble>
         requires ready { IsReady self.now }
         requires standing { D.tells → AreStanding (D.disk dev.old) self.now.hosting.stores }
         ensures set { IfOk result (λ f. IsFinishing self.now f) }
@@ -312,16 +265,16 @@ impl Engine {
             → HoldsFront w db job.checkpoint job.left (D.disk dev.old) (staging_of job.set count) → IfOk result (λ f. HoldsFront w db job.checkpoint f.rest (D.disk dev.new) f.staged) }
         ensures crash { D.tells → (w : World) → StandsFor (D.disk dev.old) self.now w → Effect IsOurs (Covers w) (D.disk dev.old) (D.disk dev.new) }
         ensures touches { D.tells → TouchesOnly NoMedium (D.disk dev.old) (D.disk dev.new) }
-        ensures trouble { IfErr result IsTrouble }
-        ensures cause { HasCause D.disk_faults D.tell_faults dev.old dev.new (IsErrOf result StoresError.Fault) }
+        ensures trouble { IfErr result IsPassing }
+        ensures cause { HasCause D.disk_faults D.tell_faults dev.old dev.new (IsErrOf result Trouble.Fault) }
     {
         self.at_rest(dev);
         let Some(at) = self.find(name) else {
-            return Err(StoresError::NoMemory);
+            return Err(Trouble::NoMemory);
         };
         let all = self.extents(dev, at)?;
         if left > all.len() {
-            return Err(StoresError::NoMemory);
+            return Err(Trouble::NoMemory);
         }
         let from = all.len() - left;
         let staged = self.take_up(dev, set, from as u32)?;
@@ -334,18 +287,17 @@ impl Engine {
         })
     }
 
-    /// The backup of the database of this name ends: none of it runs any more, and it says the stamp of its set, by these records, among these open transactions; all that it has said is durable then. Gives the set, of
-    /// which the extents in `rest` aren't copied yet; the record names it until `end_set`: if the run is cut off, the next one removes its file. A crash leaves the world before it, but for what waited, or the one in which
-    /// the backup runs no more, or the one behind the stamp.
+    /// The backup of the database of this name ends, and says its stamp by these records, among these open transactions. Gives its set, of which the extents in `rest` aren't copied yet;
+    /// the record names it until `end_set`. A crash leaves the world before it, but for what waited, the one in which the backup runs no more, or the one behind the stamp.
     ///
-    /// Only `Fault` and `NoMemory` are answered. Where there is no database of this name, no backup of it runs, it may not say this, or the set's file hasn't the length that it had, the call ends as if memory were wanting.
+    /// Only `Fault` and `NoMemory` are answered: `NoMemory` too where no such backup can end.
     pub fn finish_set<D: Device>(
         &mut self,
         dev: &mut D,
         name: &str,
         records: &[Rec],
         transactions: Sequence<Open>,
-    ) -> Result<Finishing, StoresError>
+    ) -> Result<Finishing, Trouble>
         requires ready { IsReady self.old }
         requires none { (own_in self.old).staging ≡ None }
         requires limits { AllByRecursion (λ (r : Recs). KeepsLimits r.body) records.now }
@@ -364,8 +316,8 @@ impl Engine {
         ensures crash { D.tells → (w : World) (job : Jobs) (stamp : Said) → StandsFor (D.disk dev.old) self.old w → EndsSet w name.now job stamp transactions records.now
             → Effect IsOurs (CutsEnding w name.now stamp transactions) (D.disk dev.old) (D.disk dev.new) }
         ensures touches { D.tells → TouchesOnly NoMedium (D.disk dev.old) (D.disk dev.new) }
-        ensures trouble { IfErr result IsTrouble }
-        ensures cause { HasCause D.disk_faults D.tell_faults dev.old dev.new (IsErrOf result StoresError.Fault) }
+        ensures trouble { IfErr result IsPassing }
+        ensures cause { HasCause D.disk_faults D.tell_faults dev.old dev.new (IsErrOf result Trouble.Fault) }
     {
         what_is_said_comes_last();
         let stopped = self.stop_job(dev, name)?;
@@ -374,15 +326,15 @@ impl Engine {
     }
 
     // Removes what was written of the sets that the record names as being copied. The world stays, where no backup runs in it.
-    fn remove_copied<D: Device>(&self, dev: &mut D) -> Result<(), StoresError>
+    fn remove_copied<D: Device>(&self, dev: &mut D) -> Result<(), Trouble>
         requires ready { IsReady self.now }
         requires standing { D.tells → AreStanding (D.disk dev.old) self.now.hosting.stores }
         ensures standing { D.tells → AreStanding (D.disk dev.new) self.now.hosting.stores }
         ensures stands { D.tells → (w : World) → StandsFor (D.disk dev.old) self.now w → AllByRecursion (λ (db : Database). db.job ≡ None) w.databases → StandsFor (D.disk dev.new) self.now w }
         ensures crash { D.tells → (w : World) → StandsFor (D.disk dev.old) self.now w → Effect IsOurs (Covers w) (D.disk dev.old) (D.disk dev.new) }
         ensures touches { D.tells → TouchesOnly NoMedium (D.disk dev.old) (D.disk dev.new) }
-        ensures trouble { IfErr result IsTrouble }
-        ensures cause { HasCause D.disk_faults D.tell_faults dev.old dev.new (IsErrOf result StoresError.Fault) }
+        ensures trouble { IfErr result IsPassing }
+        ensures cause { HasCause D.disk_faults D.tell_faults dev.old dev.new (IsErrOf result Trouble.Fault) }
     {
         self.hosting.at_rest(dev);
         remove_sets(self.alloc, dev, self.hosting.own().copying.as_slice())
@@ -409,7 +361,7 @@ impl Engine {
     /// No backup runs any more: what was written of their sets is removed. Says whether one ran; where none did, nothing is done. A crash leaves the world before it, but for what waited.
     ///
     /// Only `Fault` and `NoMemory` are answered.
-    pub fn drop_sets<D: Device>(&mut self, dev: &mut D) -> Result<bool, StoresError>
+    pub fn drop_sets<D: Device>(&mut self, dev: &mut D) -> Result<bool, Trouble>
         requires ready { IsReady self.old }
         requires none { (own_in self.old).staging ≡ None }
         requires standing { D.tells → AreStanding (D.disk dev.old) self.old.hosting.stores }
@@ -422,8 +374,8 @@ impl Engine {
         ensures idle { D.tells → (w : World) → StandsFor (D.disk dev.old) self.old w → IfOk result (λ ran. ran ≡ false → AllByRecursion (λ (db : Database). db.job ≡ None) w.databases) }
         ensures crash { D.tells → (w : World) → StandsFor (D.disk dev.old) self.old w → Effect IsOurs (Covers w) (D.disk dev.old) (D.disk dev.new) }
         ensures touches { D.tells → TouchesOnly NoMedium (D.disk dev.old) (D.disk dev.new) }
-        ensures trouble { IfErr result IsTrouble }
-        ensures cause { HasCause D.disk_faults D.tell_faults dev.old dev.new (IsErrOf result StoresError.Fault) }
+        ensures trouble { IfErr result IsPassing }
+        ensures cause { HasCause D.disk_faults D.tell_faults dev.old dev.new (IsErrOf result Trouble.Fault) }
     {
         self.at_rest(dev);
         if !self.drop_jobs(dev) {

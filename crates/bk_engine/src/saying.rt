@@ -3,12 +3,12 @@ ghost use Rattle.std.specs.Prelude.{◌≡◌, true, List, IfErr, OnOk, IsErrOf}
 ghost use Rattle.std.specs.List.{AllByRecursion, list_all};
 ghost use Rattle.bk_device.specs.Counts.{HasCause};
 ghost use Rattle.bk_device.specs.Effects.{Effect};
+ghost use Rattle.bk_device.specs.Troubles.{IsPassing};
 ghost use Rattle.bk_ids.specs.declared.record.Rec.{Rec as Recs};
 ghost use Rattle.bk_machine.specs.Acts.{done, logged};
 ghost use Rattle.bk_machine.specs.Sound.{has_begin};
 ghost use Rattle.bk_machine.specs.World.{World};
 ghost use Rattle.bk_record.specs.Spelling.{KeepsLimits};
-ghost use Rattle.bk_stores.specs.Errors.{IsTrouble};
 ghost use Rattle.bk_stores.specs.Standing.{AreStanding};
 ghost use Rattle.bk_world.specs.Records.{Said};
 ghost use Rattle.bk_engine.specs.Acts.{CutsSaying, MaySayIn};
@@ -17,9 +17,8 @@ ghost use Rattle.bk_engine.specs.Stands.{IsOurs, IsReady, NamesSet, StandsFor, o
 ghost use Rattle.bk_engine.specs.Touched.{NoMedium, TouchesOnly};
 
 use crate::engine::Engine;
-use bk_device::Device;
+use bk_device::{Device, Trouble};
 use bk_ids::{Body, Lsn, Rec, Sequence};
-use bk_stores::StoresError;
 use bk_world::Open;
 
 // Whether a transaction with this first record is open.
@@ -65,17 +64,17 @@ fn may_wait(records: &[Rec], transactions: &[Open], before: &[Open]) -> bool
 }
 
 impl Engine {
-    /// The database of this name says these records at its end, and then these transactions are open. Where each record begins one of them or is a write of one, and what was open before still is, they wait in memory;
-    /// else all that the database has said is durable then. A crash leaves the world before it, but for what waited, or the one behind a front of what is said.
+    /// The database of this name says these records, and then these transactions are open. Where each record begins one of them or is a write of one, and what was open before still is, they wait in memory;
+    /// else all that it has said is durable then. A crash leaves the world before it, but for what waited, or the one behind a front of what is said.
     ///
-    /// Only `Fault` and `NoMemory` are answered. Where there is no database of this name, or it is being restored, or may not say this, the call ends as if memory were wanting.
+    /// Only `Fault` and `NoMemory` are answered, as by `log`.
     pub fn say<D: Device>(
         &mut self,
         dev: &mut D,
         name: &str,
         records: &[Rec],
         transactions: Sequence<Open>,
-    ) -> Result<(), StoresError>
+    ) -> Result<(), Trouble>
         requires ready { IsReady self.old }
         requires limits { AllByRecursion (λ (r : Recs). KeepsLimits r.body) records.now }
         requires standing { D.tells → AreStanding (D.disk dev.old) self.old.hosting.stores }
@@ -85,12 +84,12 @@ impl Engine {
         ensures stands { D.tells → (w : World) (said : List Said) → StandsFor (D.disk dev.old) self.old w → MaySayIn w name.now said transactions records.now true → OnOk result (StandsFor (D.disk dev.new) self.new (done w (logged name.now said transactions))) }
         ensures crash { D.tells → (w : World) (said : List Said) → StandsFor (D.disk dev.old) self.old w → MaySayIn w name.now said transactions records.now true → Effect IsOurs (CutsSaying w name.now said transactions) (D.disk dev.old) (D.disk dev.new) }
         ensures touches { D.tells → TouchesOnly NoMedium (D.disk dev.old) (D.disk dev.new) }
-        ensures trouble { IfErr result IsTrouble }
-        ensures cause { HasCause D.disk_faults D.tell_faults dev.old dev.new (IsErrOf result StoresError.Fault) }
+        ensures trouble { IfErr result IsPassing }
+        ensures cause { HasCause D.disk_faults D.tell_faults dev.old dev.new (IsErrOf result Trouble.Fault) }
     {
         let Some(at) = self.hosting.find(name) else {
             self.hosting.at_rest(dev);
-            return Err(StoresError::NoMemory);
+            return Err(Trouble::NoMemory);
         };
         let before = &self.hosting.state(at).transactions;
         let waits = may_wait(records, transactions.as_slice(), before.as_slice());

@@ -5,10 +5,10 @@ ghost use Rattle.bk_archive.specs.Media.{IfDurable, IsMediumFile, MediaAreDurabl
 ghost use Rattle.bk_body.specs.Body.{Body};
 ghost use Rattle.bk_device.specs.Counts.{HasCause};
 ghost use Rattle.bk_device.specs.Effects.{Effect, IsName};
+ghost use Rattle.bk_device.specs.Troubles.{IsPassing};
 ghost use Rattle.bk_header.specs.Conditions.{KeepsConditions};
 ghost use Rattle.bk_machine.specs.Acts.{done, set_sealed};
 ghost use Rattle.bk_machine.specs.World.{World};
-ghost use Rattle.bk_stores.specs.Errors.{IsTrouble};
 ghost use Rattle.bk_stores.specs.Standing.{AreStanding};
 ghost use Rattle.bk_volume.specs.Names.{medium_file};
 ghost use Rattle.bk_volume.specs.Staging.{IsSetOf, IsStaged};
@@ -20,11 +20,10 @@ ghost use Rattle.bk_engine.specs.Touched.{IsAt, TouchesOnly};
 use crate::engine::Engine;
 use crate::making::path_law;
 use bk_archive::{SealError, seal_set};
-use bk_device::Device;
+use bk_device::{Device, Trouble};
 use bk_hosted::hosted_databases_follow_acts;
 use bk_ids::Text;
 use bk_machine::acts_keep_worlds_sound;
-use bk_stores::StoresError;
 use bk_volume::Staged;
 use bk_world::{Header, TableSpec};
 use std::alloc::Global;
@@ -37,7 +36,7 @@ fn seal_at<D: Device>(
     staged: &Staged,
     header: &Header,
     tables: &[TableSpec],
-) -> Result<(), StoresError>
+) -> Result<(), Trouble>
     requires whole { staged.now.failed ≡ false }
     requires apart { staged.now.name ≢ medium_file path.now }
     requires keeps { KeepsConditions header.now }
@@ -47,13 +46,13 @@ fn seal_at<D: Device>(
     ensures calm { D.tells → (body : Body) → IsSetOf (D.disk dev.old) staged.now header.now tables.now body → MediaAreDurable (D.disk dev.old) → OnOk result (MediaAreDurable (D.disk dev.new)) }
     ensures crash { D.tells → (body : Body) → IsSetOf (D.disk dev.old) staged.now header.now tables.now body → Effect IsMediumFile (IfDurable (D.disk dev.old) (LeavesSealing path.now body (D.disk dev.old).files)) (D.disk dev.old) (D.disk dev.new) }
     ensures spares { D.tells → Effect (IsName (medium_file path.now)) (λ image. Unit {0}) (D.disk dev.old) (D.disk dev.new) }
-    ensures trouble { IfErr result IsTrouble }
-    ensures cause { HasCause D.disk_faults D.tell_faults dev.old dev.new (IsErrOf result StoresError.Fault) }
+    ensures trouble { IfErr result IsPassing }
+    ensures cause { HasCause D.disk_faults D.tell_faults dev.old dev.new (IsErrOf result Trouble.Fault) }
 {
     match seal_set(alloc, dev, path, staged, header, tables) {
         Ok(()) => Ok(()),
-        Err(SealError::Fault) => Err(StoresError::Fault),
-        Err(SealError::NoMedium | SealError::NoMemory) => Err(StoresError::NoMemory),
+        Err(SealError::Fault) => Err(Trouble::Fault),
+        Err(SealError::NoMedium | SealError::NoMemory) => Err(Trouble::NoMemory),
     }
 }
 
@@ -68,7 +67,7 @@ impl Engine {
         staged: &Staged,
         header: &Header,
         tables: &[TableSpec],
-    ) -> Result<(), StoresError>
+    ) -> Result<(), Trouble>
         requires ready { IsReady self.now }
         requires whole { staged.now.failed ≡ false }
         requires named { IsStagingFile staged.now.name }
@@ -80,8 +79,8 @@ impl Engine {
         ensures stands { D.tells → (w : World) (body : Body) → StandsFor (D.disk dev.old) self.now w → MaySeal (D.disk dev.old) w staged.now header.now tables.now body → OnOk result (StandsFor (D.disk dev.new) self.now (done w (set_sealed path.now header.now))) }
         ensures crash { D.tells → (w : World) (body : Body) → StandsFor (D.disk dev.old) self.now w → MaySeal (D.disk dev.old) w staged.now header.now tables.now body → Effect IsOurs (CutsAct w (set_sealed path.now header.now)) (D.disk dev.old) (D.disk dev.new) }
         ensures touches { D.tells → TouchesOnly (IsAt path.now) (D.disk dev.old) (D.disk dev.new) }
-        ensures trouble { IfErr result IsTrouble }
-        ensures cause { HasCause D.disk_faults D.tell_faults dev.old dev.new (IsErrOf result StoresError.Fault) }
+        ensures trouble { IfErr result IsPassing }
+        ensures cause { HasCause D.disk_faults D.tell_faults dev.old dev.new (IsErrOf result Trouble.Fault) }
     {
         acts_keep_worlds_sound();
         hosted_databases_follow_acts();

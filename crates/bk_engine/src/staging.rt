@@ -3,11 +3,11 @@ ghost use Rattle.std.specs.Prelude.{◌≡◌, ◌≤◌, [], ◌∷◌, ◌++�
 ghost use Rattle.bk_device.specs.Calls.{ChangesNothing};
 ghost use Rattle.bk_device.specs.Counts.{HasCause};
 ghost use Rattle.bk_device.specs.Effects.{Effect, IsName};
+ghost use Rattle.bk_device.specs.Troubles.{IsPassing};
 ghost use Rattle.bk_fields.specs.Guids.{IsGuid};
 ghost use Rattle.bk_ids.specs.declared.guid.Guid.{Guid as Guids};
 ghost use Rattle.bk_kept.specs.Jobs.{IsApart};
 ghost use Rattle.bk_machine.specs.World.{World};
-ghost use Rattle.bk_stores.specs.Errors.{IsTrouble};
 ghost use Rattle.bk_stores.specs.Standing.{AreStanding};
 ghost use Rattle.bk_stores.specs.Stores.{TouchesOurs};
 ghost use Rattle.bk_volume.specs.Names.{staging_file};
@@ -18,11 +18,10 @@ ghost use Rattle.bk_engine.specs.Stands.{Covers, IsOurs, IsReady, IsStagingFile,
 ghost use Rattle.bk_engine.specs.Touched.{NoMedium, TouchesOnly};
 
 use crate::engine::Engine;
-use bk_device::Device;
+use bk_device::{Device, Trouble};
 use bk_ids::{Guid, Sequence};
 use bk_master::Own;
-use bk_stores::StoresError;
-use bk_volume::{Staged, WriteError};
+use bk_volume::Staged;
 use std::alloc::{AllocError, Global};
 
 // At most so many sets are copied beside the sessions.
@@ -62,19 +61,15 @@ fn without_set(alloc: Global, sets: &[Guid], set: Guid) -> Result<Sequence<Guid>
 }
 
 // Begins the file of a set that is to be written.
-fn begin_at<D: Device>(alloc: Global, dev: &mut D, set: Guid) -> Result<Staged, StoresError>
+fn begin_at<D: Device>(alloc: Global, dev: &mut D, set: Guid) -> Result<Staged, Trouble>
     ensures guid { IsGuid set }
     ensures begun { IfOk result (λ s. s ≡ record { name = staging_file set; extents = 0; log = 0; failed = false }) }
     ensures empty { D.tells → OnOk result ((D.disk dev.new).files (staging_file set) ≡ None) }
     ensures crash { D.tells → Effect (IsName (staging_file set)) (λ image. Unit {0}) (D.disk dev.old) (D.disk dev.new) }
-    ensures trouble { IfErr result IsTrouble }
-    ensures cause { HasCause D.disk_faults D.tell_faults dev.old dev.new (IsErrOf result StoresError.Fault) }
+    ensures trouble { IfErr result IsPassing }
+    ensures cause { HasCause D.disk_faults D.tell_faults dev.old dev.new (IsErrOf result Trouble.Fault) }
 {
-    match Staged::begin(alloc, dev, set) {
-        Ok(staged) => Ok(staged),
-        Err(WriteError::Fault) => Err(StoresError::Fault),
-        Err(WriteError::NoMemory) => Err(StoresError::NoMemory),
-    }
+    Ok(Staged::begin(alloc, dev, set)?)
 }
 
 // Takes up the file of a set to which so many extents were added.
@@ -83,31 +78,25 @@ fn again_at<D: Device>(
     dev: &mut D,
     set: Guid,
     extents: u32,
-) -> Result<Staged, StoresError>
+) -> Result<Staged, Trouble>
     ensures again { IfOk result (λ s. s ≡ staging_of set extents) }
     ensures staged { D.tells → IfOk result (λ s. IsStaged (D.disk dev.new) s) }
     ensures effect { D.tells → ChangesNothing (D.disk dev.old) (D.disk dev.new) }
-    ensures trouble { IfErr result IsTrouble }
-    ensures cause { HasCause D.disk_faults D.tell_faults dev.old dev.new (IsErrOf result StoresError.Fault) }
+    ensures trouble { IfErr result IsPassing }
+    ensures cause { HasCause D.disk_faults D.tell_faults dev.old dev.new (IsErrOf result Trouble.Fault) }
 {
-    match Staged::again(alloc, dev, set, extents) {
-        Ok(staged) => Ok(staged),
-        Err(WriteError::Fault) => Err(StoresError::Fault),
-        Err(WriteError::NoMemory) => Err(StoresError::NoMemory),
-    }
+    Ok(Staged::again(alloc, dev, set, extents)?)
 }
 
 // Removes the file of a set that was written.
-fn remove_file<D: Device>(dev: &mut D, staged: Staged) -> Result<(), StoresError>
+fn remove_file<D: Device>(dev: &mut D, staged: Staged) -> Result<(), Trouble>
     ensures removed { D.tells → OnOk result ((D.disk dev.new).files staged.name ≡ None) }
     ensures crash { D.tells → Effect (IsName staged.name) (λ image. Unit {0}) (D.disk dev.old) (D.disk dev.new) }
-    ensures trouble { IfErr result IsTrouble }
-    ensures cause { HasCause D.disk_faults D.tell_faults dev.old dev.new (IsErrOf result StoresError.Fault) }
+    ensures trouble { IfErr result IsPassing }
+    ensures cause { HasCause D.disk_faults D.tell_faults dev.old dev.new (IsErrOf result Trouble.Fault) }
 {
-    match staged.remove(dev) {
-        Ok(()) => Ok(()),
-        Err(_) => Err(StoresError::Fault),
-    }
+    staged.remove(dev)?;
+    Ok(())
 }
 
 impl Engine {
@@ -117,7 +106,7 @@ impl Engine {
         dev: &mut D,
         staging: Option<Guid>,
         copying: Sequence<Guid>,
-    ) -> Result<(), StoresError>
+    ) -> Result<(), Trouble>
         requires ready { IsReady self.old }
         requires few { length copying ≤ 16 }
         requires standing { D.tells → AreStanding (D.disk dev.old) self.old.hosting.stores }
@@ -129,8 +118,8 @@ impl Engine {
         ensures crash { D.tells → (w : World) → StandsFor (D.disk dev.old) self.old w → Effect IsOurs (Covers w) (D.disk dev.old) (D.disk dev.new) }
         ensures bare { D.tells → (w : World) → AmidBare (D.disk dev.old) self.old.hosting w → Effect IsOurs (Covers w) (D.disk dev.old) (D.disk dev.new) }
         ensures touches { D.tells → TouchesOurs (D.disk dev.old) (D.disk dev.new) }
-        ensures trouble { IfErr result IsTrouble }
-        ensures cause { HasCause D.disk_faults D.tell_faults dev.old dev.new (IsErrOf result StoresError.Fault) }
+        ensures trouble { IfErr result IsPassing }
+        ensures cause { HasCause D.disk_faults D.tell_faults dev.old dev.new (IsErrOf result Trouble.Fault) }
     {
         let own = self.hosting.own();
         let next = Own {
@@ -148,7 +137,7 @@ impl Engine {
         &mut self,
         dev: &mut D,
         staging: Option<Guid>,
-    ) -> Result<(), StoresError>
+    ) -> Result<(), Trouble>
         requires ready { IsReady self.old }
         requires standing { D.tells → AreStanding (D.disk dev.old) self.old.hosting.stores }
         ensures ready { OnOk result (IsReady self.new) }
@@ -158,8 +147,8 @@ impl Engine {
         ensures stands { D.tells → (w : World) → StandsFor (D.disk dev.old) self.old w → OnOk result (StandsFor (D.disk dev.new) self.new w) }
         ensures crash { D.tells → (w : World) → StandsFor (D.disk dev.old) self.old w → Effect IsOurs (Covers w) (D.disk dev.old) (D.disk dev.new) }
         ensures touches { D.tells → TouchesOurs (D.disk dev.old) (D.disk dev.new) }
-        ensures trouble { IfErr result IsTrouble }
-        ensures cause { HasCause D.disk_faults D.tell_faults dev.old dev.new (IsErrOf result StoresError.Fault) }
+        ensures trouble { IfErr result IsPassing }
+        ensures cause { HasCause D.disk_faults D.tell_faults dev.old dev.new (IsErrOf result Trouble.Fault) }
     {
         self.at_rest(dev);
         let copying = copied_sets(self.alloc, self.hosting.own().copying.as_slice())?;
@@ -167,11 +156,7 @@ impl Engine {
     }
 
     // The record names this set among those that are being copied beside the sessions, of which it names at most 16: where it names as many, the call ends as if memory were wanting.
-    pub(crate) fn name_copying<D: Device>(
-        &mut self,
-        dev: &mut D,
-        set: Guid,
-    ) -> Result<(), StoresError>
+    pub(crate) fn name_copying<D: Device>(&mut self, dev: &mut D, set: Guid) -> Result<(), Trouble>
         requires ready { IsReady self.old }
         requires standing { D.tells → AreStanding (D.disk dev.old) self.old.hosting.stores }
         ensures ready { OnOk result (IsReady self.new) }
@@ -180,14 +165,14 @@ impl Engine {
         ensures stands { D.tells → (w : World) → StandsFor (D.disk dev.old) self.old w → OnOk result (StandsFor (D.disk dev.new) self.new w) }
         ensures crash { D.tells → (w : World) → StandsFor (D.disk dev.old) self.old w → Effect IsOurs (Covers w) (D.disk dev.old) (D.disk dev.new) }
         ensures touches { D.tells → TouchesOurs (D.disk dev.old) (D.disk dev.new) }
-        ensures trouble { IfErr result IsTrouble }
-        ensures cause { HasCause D.disk_faults D.tell_faults dev.old dev.new (IsErrOf result StoresError.Fault) }
+        ensures trouble { IfErr result IsPassing }
+        ensures cause { HasCause D.disk_faults D.tell_faults dev.old dev.new (IsErrOf result Trouble.Fault) }
     {
         self.at_rest(dev);
         let own = self.hosting.own();
         let staging = own.staging;
         if own.copying.as_slice().len() >= MOST_COPIED {
-            return Err(StoresError::NoMemory);
+            return Err(Trouble::NoMemory);
         }
         let copying = with_set(self.alloc, own.copying.as_slice(), set)?;
         self.put_sets(dev, staging, copying)
@@ -198,7 +183,7 @@ impl Engine {
         &mut self,
         dev: &mut D,
         set: Guid,
-    ) -> Result<(), StoresError>
+    ) -> Result<(), Trouble>
         requires ready { IsReady self.old }
         requires standing { D.tells → AreStanding (D.disk dev.old) self.old.hosting.stores }
         ensures ready { OnOk result (IsReady self.new) }
@@ -207,8 +192,8 @@ impl Engine {
         ensures stands { D.tells → (w : World) → StandsFor (D.disk dev.old) self.old w → OnOk result (StandsFor (D.disk dev.new) self.new w) }
         ensures crash { D.tells → (w : World) → StandsFor (D.disk dev.old) self.old w → Effect IsOurs (Covers w) (D.disk dev.old) (D.disk dev.new) }
         ensures touches { D.tells → TouchesOurs (D.disk dev.old) (D.disk dev.new) }
-        ensures trouble { IfErr result IsTrouble }
-        ensures cause { HasCause D.disk_faults D.tell_faults dev.old dev.new (IsErrOf result StoresError.Fault) }
+        ensures trouble { IfErr result IsPassing }
+        ensures cause { HasCause D.disk_faults D.tell_faults dev.old dev.new (IsErrOf result Trouble.Fault) }
     {
         self.at_rest(dev);
         let copying = without_set(self.alloc, self.hosting.own().copying.as_slice(), set)?;
@@ -216,11 +201,7 @@ impl Engine {
     }
 
     // Begins the file of a set that is to be written.
-    pub(crate) fn begin_staged<D: Device>(
-        &self,
-        dev: &mut D,
-        set: Guid,
-    ) -> Result<Staged, StoresError>
+    pub(crate) fn begin_staged<D: Device>(&self, dev: &mut D, set: Guid) -> Result<Staged, Trouble>
         requires standing { D.tells → AreStanding (D.disk dev.old) self.now.hosting.stores }
         ensures guid { IsGuid set }
         ensures begun { IfOk result (λ s. s ≡ record { name = staging_file set; extents = 0; log = 0; failed = false }) }
@@ -229,8 +210,8 @@ impl Engine {
         ensures stands { D.tells → (w : World) → IsReady self.now → StandsFor (D.disk dev.old) self.now w → IsApart w set → StandsFor (D.disk dev.new) self.now w }
         ensures crash { D.tells → (w : World) → IsReady self.now → StandsFor (D.disk dev.old) self.now w → Effect IsOurs (Covers w) (D.disk dev.old) (D.disk dev.new) }
         ensures touches { D.tells → TouchesOnly NoMedium (D.disk dev.old) (D.disk dev.new) }
-        ensures trouble { IfErr result IsTrouble }
-        ensures cause { HasCause D.disk_faults D.tell_faults dev.old dev.new (IsErrOf result StoresError.Fault) }
+        ensures trouble { IfErr result IsPassing }
+        ensures cause { HasCause D.disk_faults D.tell_faults dev.old dev.new (IsErrOf result Trouble.Fault) }
     {
         self.hosting.at_rest(dev);
         begin_at(self.alloc, dev, set)
@@ -242,7 +223,7 @@ impl Engine {
         dev: &mut D,
         set: Guid,
         extents: u32,
-    ) -> Result<Staged, StoresError>
+    ) -> Result<Staged, Trouble>
         requires standing { D.tells → AreStanding (D.disk dev.old) self.now.hosting.stores }
         ensures guid { IsGuid set }
         ensures again { IfOk result (λ s. s ≡ staging_of set extents) }
@@ -252,8 +233,8 @@ impl Engine {
         ensures stands { D.tells → (w : World) → IsReady self.now → StandsFor (D.disk dev.old) self.now w → StandsFor (D.disk dev.new) self.now w }
         ensures crash { D.tells → (w : World) → IsReady self.now → StandsFor (D.disk dev.old) self.now w → Effect IsOurs (Covers w) (D.disk dev.old) (D.disk dev.new) }
         ensures touches { D.tells → TouchesOnly NoMedium (D.disk dev.old) (D.disk dev.new) }
-        ensures trouble { IfErr result IsTrouble }
-        ensures cause { HasCause D.disk_faults D.tell_faults dev.old dev.new (IsErrOf result StoresError.Fault) }
+        ensures trouble { IfErr result IsPassing }
+        ensures cause { HasCause D.disk_faults D.tell_faults dev.old dev.new (IsErrOf result Trouble.Fault) }
     {
         self.hosting.at_rest(dev);
         again_at(self.alloc, dev, set, extents)
@@ -262,7 +243,7 @@ impl Engine {
     /// Begins a set that is to be written, with no extent and no log, in a file of its own, which the record names until `end_set`: if the run is cut off, the next one removes it. The world stays.
     ///
     /// Only `Fault` and `NoMemory` are answered.
-    pub fn begin_set<D: Device>(&mut self, dev: &mut D, set: Guid) -> Result<Staged, StoresError>
+    pub fn begin_set<D: Device>(&mut self, dev: &mut D, set: Guid) -> Result<Staged, Trouble>
         requires ready { IsReady self.old }
         requires standing { D.tells → AreStanding (D.disk dev.old) self.old.hosting.stores }
         ensures ready { OnOk result (IsReady self.new) }
@@ -274,15 +255,15 @@ impl Engine {
         ensures stands { D.tells → (w : World) → StandsFor (D.disk dev.old) self.old w → IsApart w set → OnOk result (StandsFor (D.disk dev.new) self.new w) }
         ensures crash { D.tells → (w : World) → StandsFor (D.disk dev.old) self.old w → Effect IsOurs (Covers w) (D.disk dev.old) (D.disk dev.new) }
         ensures touches { D.tells → TouchesOnly NoMedium (D.disk dev.old) (D.disk dev.new) }
-        ensures trouble { IfErr result IsTrouble }
-        ensures cause { HasCause D.disk_faults D.tell_faults dev.old dev.new (IsErrOf result StoresError.Fault) }
+        ensures trouble { IfErr result IsPassing }
+        ensures cause { HasCause D.disk_faults D.tell_faults dev.old dev.new (IsErrOf result Trouble.Fault) }
     {
         self.name_set(dev, Some(set))?;
         self.begin_staged(dev, set)
     }
 
     // Removes the file of a set that was written.
-    fn remove_staged<D: Device>(&self, dev: &mut D, staged: Staged) -> Result<(), StoresError>
+    fn remove_staged<D: Device>(&self, dev: &mut D, staged: Staged) -> Result<(), Trouble>
         requires named { IsStagingFile staged.name }
         requires standing { D.tells → AreStanding (D.disk dev.old) self.now.hosting.stores }
         ensures standing { D.tells → AreStanding (D.disk dev.new) self.now.hosting.stores }
@@ -291,8 +272,8 @@ impl Engine {
         ensures crash { D.tells → (w : World) → IsReady self.now → StandsFor (D.disk dev.old) self.now w → Effect IsOurs (Covers w) (D.disk dev.old) (D.disk dev.new) }
         ensures touches { D.tells → TouchesOnly NoMedium (D.disk dev.old) (D.disk dev.new) }
         ensures removed { D.tells → OnOk result ((D.disk dev.new).files staged.name ≡ None) }
-        ensures trouble { IfErr result IsTrouble }
-        ensures cause { HasCause D.disk_faults D.tell_faults dev.old dev.new (IsErrOf result StoresError.Fault) }
+        ensures trouble { IfErr result IsPassing }
+        ensures cause { HasCause D.disk_faults D.tell_faults dev.old dev.new (IsErrOf result Trouble.Fault) }
     {
         self.hosting.at_rest(dev);
         remove_file(dev, staged)
@@ -301,7 +282,7 @@ impl Engine {
     /// Removes the file in which a set was written, and the record names none then. The world stays.
     ///
     /// Only `Fault` and `NoMemory` are answered.
-    pub fn end_set<D: Device>(&mut self, dev: &mut D, staged: Staged) -> Result<(), StoresError>
+    pub fn end_set<D: Device>(&mut self, dev: &mut D, staged: Staged) -> Result<(), Trouble>
         requires ready { IsReady self.old }
         requires named { IsStagingFile staged.name }
         requires standing { D.tells → AreStanding (D.disk dev.old) self.old.hosting.stores }
@@ -312,8 +293,8 @@ impl Engine {
         ensures crash { D.tells → (w : World) → StandsFor (D.disk dev.old) self.old w → Effect IsOurs (Covers w) (D.disk dev.old) (D.disk dev.new) }
         ensures touches { D.tells → TouchesOnly NoMedium (D.disk dev.old) (D.disk dev.new) }
         ensures gone { D.tells → OnOk result ((D.disk dev.new).files staged.name ≡ None) }
-        ensures trouble { IfErr result IsTrouble }
-        ensures cause { HasCause D.disk_faults D.tell_faults dev.old dev.new (IsErrOf result StoresError.Fault) }
+        ensures trouble { IfErr result IsPassing }
+        ensures cause { HasCause D.disk_faults D.tell_faults dev.old dev.new (IsErrOf result Trouble.Fault) }
     {
         self.at_rest(dev);
         let copying = copied_sets(self.alloc, self.hosting.own().copying.as_slice())?;

@@ -32,8 +32,7 @@ fn end_in(state: &State) -> Lsn
 fn end_of(alloc: Global, state: &State) -> Result<Shown, AllocError>
     ensures { IfOk result (IsEndOf state.now) }
 {
-    let ended = Shown::ended(alloc, end_in(state))?;
-    Ok(ended)
+    Shown::ended(alloc, end_in(state))
 }
 
 // One for each database.

@@ -1,6 +1,6 @@
 -- What is known of a backup once it is told of its medium.
-use Rattle.std.proofs.Common.{◌≡◌, ℕ, List, Option, Err, refl, subst}
-use Rattle.std.specs.Prelude.{IsErrOf, Result}
+use Rattle.std.proofs.Common.{◌≡◌, ℕ, List, Option, subst}
+use Rattle.std.specs.Prelude.{Result}
 use Rattle.bk_device.specs.Calls.{ChangesNothing}
 use Rattle.bk_device.specs.Disk.{Disk, IsLawful}
 use Rattle.bk_engine.specs.Stands.{Kept, StandsFor}
@@ -11,13 +11,8 @@ use Rattle.bk_machine.specs.Outcome.{Outcome}
 use Rattle.bk_machine.specs.World.{World}
 use Rattle.bk_machine.specs.statements.Backup.{ShowsRoom}
 use Rattle.bk_plans.specs.declared.parts.Plan.{Plan}
-use Rattle.bk_shown.specs.declared.error.TakeError.{TakeError}
-use Rattle.bk_shown.specs.declared.error.TakeError.TheVariants.{NoMemory, Unfit}
 use Rattle.bk_world.specs.Medium.{medium_at}
 use Rattle.bk_world.specs.declared.rule.Rule.{Rule}
-use Rattle.bk_executing.specs.Errors.{taken_error}
-use Rattle.bk_executing.specs.declared.error.ExecuteError.{ExecuteError}
-use Rattle.bk_executing.specs.declared.error.ExecuteError.TheVariants.{Broken}
 use Rattle.bk_executing.proofs.BackedUp.{Laws, plan-sets}
 use Rattle.bk_executing.proofs.Other.{DoWhatTheyMay}
 use Rattle.bk_executing.proofs.Planned.{Knows}
@@ -36,8 +31,3 @@ knows-backup e a b line name units disk options now room plan outcome lawful cal
 -- it has this room, by the path that was asked for
 pub room-there : (w : World) (path other : List ℕ) (room : Result (Option ℕ) Rule) → other ≡ path → ShowsRoom (medium_at w.media other) room → ShowsRoom (medium_at w.media path) room
 room-there w path other room same is = subst (λ (p : List ℕ). ShowsRoom (medium_at w.media p) room) same is
-
--- a run that ends as broken by what couldn't be planned ends so by a set that isn't fit
-pub unfit-broken : {A B : Type 0} (e : TakeError) → IsErrOf {T = A} {E = ExecuteError} (Err (taken_error e)) Broken → IsErrOf {T = B} {E = TakeError} (Err e) Unfit
-unfit-broken Unfit is = refl
-unfit-broken NoMemory is = absurd (cc)

@@ -8,6 +8,7 @@ use Rattle.bk_device.specs.Compose.{effect_of_nothing, effect_then}
 use Rattle.bk_device.specs.Disk.{Disk, IsLawful}
 use Rattle.bk_device.specs.Effects.{Effect}
 use Rattle.bk_device.specs.Laws.{effect_after_nothing, nothing_then}
+use Rattle.bk_device.specs.declared.trouble.Trouble.{Trouble}
 use Rattle.bk_engine.specs.BesideLaws.{hosting-stays, stores-stand}
 use Rattle.bk_engine.specs.CopiedLaws.{copied-nothing}
 use Rattle.bk_engine.specs.Stands.{IsOurs, Kept, StandsFor}
@@ -43,7 +44,6 @@ use Rattle.bk_stores.specs.Stores.{Kept as KeptStores}
 use Rattle.bk_volume.specs.Names.{medium_file}
 use Rattle.bk_world.specs.declared.reply.Reply.{Reply}
 use Rattle.bk_world.specs.declared.rule.Rule.{Rule}
-use Rattle.bk_executing.specs.declared.error.ExecuteError.{ExecuteError}
 use Rattle.bk_executing.specs.Executing.{Executed, Failed, Rests}
 use Rattle.bk_executing.specs.Parts.{CutsPlan, DoesPlan, HasNoParts, MayDoParts, MayFollow, PlanWrites, SealsNow}
 use Rattle.bk_executing.specs.Planned.{IsPlanned, IsRestorePlanned, IsWaitPlanned}
@@ -161,7 +161,7 @@ pub record Knows (tells : Type 0) (e : Kept) (a b : Disk) (Known : World → Typ
   pub may : (w : World) → IsSound w → May w s now outcome → MayDoAll w outcome.acts
   pub sets : (w : World) → IsSound w → May w s now outcome → AreActsOf w plan outcome.acts → PlanSets w plan outcome.acts
 
-pub record Follows (tells : Type 0) (e : Kept) (b : Disk) (plan : Plan) (result : Result Reply ExecuteError) (new : Kept) (c : Disk) : Type 0 where
+pub record Follows (tells : Type 0) (e : Kept) (b : Disk) (plan : Plan) (result : Result Reply Trouble) (new : Kept) (c : Disk) : Type 0 where
   pub replies : IfOk result (λ reply. reply ≡ reply_of plan)
   pub does : tells → OnOk result (DoesPlan e b plan new c)
   pub crash : tells → CutsPlan e b plan c
@@ -192,7 +192,7 @@ module _ {tells : Type 0} {Known : World → Type 0} (e new : Kept) (a b c : Dis
       let then : Rests e b new c = rests told (still-plan w plan plans.outcome (then-acts told w stands) still) in
       record { device = nothing_then (knows.lawful told) (knows.call told) then.device; own = then.own; drawn = then.drawn }
 
-  pub plan-executed : (result : Result Reply ExecuteError) → Follows tells e b plan result new c → IfOk result (λ reply. Executed tells e a s now reply new c)
+  pub plan-executed : (result : Result Reply Trouble) → Follows tells e b plan result new c → IfOk result (λ reply. Executed tells e a s now reply new c)
   plan-executed (Ok reply) follows = record {
     outcome = plans.outcome;
     replies = plans.replies ∙ sym follows.replies;
@@ -204,7 +204,7 @@ module _ {tells : Type 0} {Known : World → Type 0} (e new : Kept) (a b c : Dis
   }
   plan-executed (Err error) follows = tt
 
-  pub plan-failed : (result : Result Reply ExecuteError) → Follows tells e b plan result new c → OnErr result (Failed tells e a s now c)
+  pub plan-failed : (result : Result Reply Trouble) → Follows tells e b plan result new c → OnErr result (Failed tells e a s now c)
   plan-failed (Ok reply) follows = tt
   plan-failed (Err error) follows = inr (record { outcome = plans.outcome; may = then-may; crash = then-cuts follows.crash; spares = then-spares follows.touches })
 
@@ -213,10 +213,10 @@ pub plan-touches : {named : List ℕ → Type 0} (a b c : Disk) → ChangesNothi
 plan-touches a b c call touches = effect_then (touches-nothing call) (wider-touch (λ path at. tt) touches)
 
 -- a statement is executed by its item
-pub executed-by : (tells : Type 0) (e new : Kept) (a c : Disk) (s : ScriptEntry) (item : ScriptItem) (now : ℕ) (result : Result Reply ExecuteError) → s.item ≡ item
+pub executed-by : (tells : Type 0) (e new : Kept) (a c : Disk) (s : ScriptEntry) (item : ScriptItem) (now : ℕ) (result : Result Reply Trouble) → s.item ≡ item
     → IfOk result (λ reply. Executed tells e a (record { item = item; line = s.line }) now reply new c) → IfOk result (λ reply. Executed tells e a s now reply new c)
 executed-by tells e new a c s item now result is = subst (λ it. IfOk result (λ reply. Executed tells e a (record { item = it; line = s.line }) now reply new c)) (sym is)
 
-pub failed-by : (tells : Type 0) (e : Kept) (a c : Disk) (s : ScriptEntry) (item : ScriptItem) (now : ℕ) (result : Result Reply ExecuteError) → s.item ≡ item
+pub failed-by : (tells : Type 0) (e : Kept) (a c : Disk) (s : ScriptEntry) (item : ScriptItem) (now : ℕ) (result : Result Reply Trouble) → s.item ≡ item
     → OnErr result (Failed tells e a (record { item = item; line = s.line }) now c) → OnErr result (Failed tells e a s now c)
 failed-by tells e a c s item now result is = subst (λ it. OnErr result (Failed tells e a (record { item = it; line = s.line }) now c)) (sym is)

@@ -3,6 +3,7 @@ use Rattle.std.proofs.Common.{◌≡◌, ◌∙◌, ℕ, Bool, true, false, List
 use Rattle.std.specs.Prelude.{IfOk, Result, not}
 use Rattle.bk_device.specs.Calls.{ChangesNothing}
 use Rattle.bk_device.specs.Disk.{Disk, IsLawful}
+use Rattle.bk_device.specs.declared.trouble.Trouble.{Trouble}
 use Rattle.bk_engine.specs.Stands.{Kept, StandsFor}
 use Rattle.bk_items.specs.declared.item.MediumQuery.{MediumQuery}
 use Rattle.bk_items.specs.declared.item.ScriptEntry.{ScriptEntry}
@@ -17,7 +18,6 @@ use Rattle.bk_world.specs.declared.reply.Reply.{Reply}
 use Rattle.bk_world.specs.declared.reply.Reply.TheVariants.{Refused}
 use Rattle.bk_world.specs.declared.rule.Rule.TheVariants.{NotBuilt}
 use Rattle.bk_world.specs.Medium.{medium_at}
-use Rattle.bk_executing.specs.declared.error.ExecuteError.{ExecuteError}
 use Rattle.bk_executing.specs.Planned.{IsPlanned}
 use Rattle.bk_executing.specs.Querying.{replied}
 use Rattle.bk_executing.proofs.Planned.{Knows}
@@ -32,7 +32,7 @@ pub path-refused : (w : World) (line : ℕ) (query : MediumQuery) (disk path : L
 unfolding check_query
 path-refused w line query disk path file same is = ap (by_path w line query disk file) (sym (subst (λ (p : List ℕ). is_path p ≡ false) same is))
 
-pub path-asked : (w : World) (line : ℕ) (query named : MediumQuery) (disk path : List ℕ) (file : Option ℕ) (result : Result Reply ExecuteError) → path ≡ disk → query ≡ named → is_path path ≡ true
+pub path-asked : (w : World) (line : ℕ) (query named : MediumQuery) (disk path : List ℕ) (file : Option ℕ) (result : Result Reply Trouble) → path ≡ disk → query ≡ named → is_path path ≡ true
     → IfOk result (λ answer. answer ≡ replied (answer_of (medium_at w.media path) file named)) → IfOk result (λ answer. answer ≡ replied (check_query w line query disk file))
 unfolding check_query
 path-asked w line query named disk path file (Ok answer) same meant is says =

@@ -12,6 +12,7 @@ use Rattle.bk_device.specs.Compose.{effect_then}
 use Rattle.bk_device.specs.Disk.{Disk, Files, IsLawful}
 use Rattle.bk_device.specs.Effects.{Effect}
 use Rattle.bk_device.specs.Laws.{effect_after_nothing, nothing_then}
+use Rattle.bk_device.specs.declared.trouble.Trouble.{Trouble}
 use Rattle.bk_engine.specs.Bringing.{IsSetOn, MovesOnly}
 use Rattle.bk_engine.specs.Stands.{IsOurs, Kept, StandsFor}
 use Rattle.bk_engine.specs.Touched.{NoMedium, TouchesOnly}
@@ -39,8 +40,6 @@ use Rattle.bk_media_plans.specs.RestorePlans.{AreNotedRestore, AreOfRestore, Kee
 use Rattle.bk_plans.specs.declared.parts.Plan.TheVariants as plan
 use Rattle.bk_record.specs.Log.{IsLog}
 use Rattle.bk_restarts.specs.Crashes.{CutIn}
-use Rattle.bk_shown.specs.declared.error.TakeError.{TakeError}
-use Rattle.bk_shown.specs.declared.error.TakeError.TheVariants.{NoMemory, Unfit}
 use Rattle.bk_volume.specs.Media.{slot_at}
 use Rattle.bk_volume.specs.Names.{medium_file}
 use Rattle.bk_volume.specs.Stored.{IsOf, Stored}
@@ -52,9 +51,6 @@ use Rattle.bk_world.specs.declared.reply.Reply.{Reply}
 use Rattle.bk_world.specs.declared.reply.Reply.TheVariants as reply
 use Rattle.bk_world.specs.declared.rule.Rule.{Rule}
 use Rattle.bk_world.specs.Medium.{medium_at}
-use Rattle.bk_executing.specs.declared.error.ExecuteError.{ExecuteError}
-use Rattle.bk_executing.specs.declared.error.ExecuteError.TheVariants.{Broken}
-use Rattle.bk_executing.specs.Errors.{taken_error}
 use Rattle.bk_executing.specs.Executing.{CutOff, Executed, Failed, Rests}
 use Rattle.bk_executing.specs.Planned.{IsPlanned, IsRestorePlanned}
 use Rattle.bk_executing.specs.Restoring.{found_of, found_under}
@@ -150,11 +146,6 @@ never-bad one items log records others place same whole bad =
     apart : None ≡ Some place → ⊥
     apart is = absurd (cc)
 
--- a run that ends as broken by what couldn't be planned ends so by a set that isn't fit
-pub unfit-set : {A B : Type 0} (e : TakeError) → IsErrOf {T = A} {E = ExecuteError} (Err (taken_error e)) Broken → IsErrOf {T = B} {E = TakeError} (Err e) Unfit
-unfit-set Unfit is = refl
-unfit-set NoMemory is = absurd (cc)
-
 -- ---- a device that was read alone before
 
 module _ {tells : Type 0} (e : Kept) (a b c : Disk) (s : ScriptEntry) (now : ℕ) (lawful : tells → IsLawful a) (call : tells → ChangesNothing a b) where
@@ -183,11 +174,11 @@ module _ {tells : Type 0} (e : Kept) (a b c : Disk) (s : ScriptEntry) (now : ℕ
     spares = λ told w stands. effect_then (touches-nothing (call told)) (cut.spares told w (stands-then told w stands));
   })
 
-  pub all-executed : (new : Kept) (result : Result Reply ExecuteError) → IfOk result (λ answer. Executed tells e b s now answer new c) → IfOk result (λ answer. Executed tells e a s now answer new c)
+  pub all-executed : (new : Kept) (result : Result Reply Trouble) → IfOk result (λ answer. Executed tells e b s now answer new c) → IfOk result (λ answer. Executed tells e a s now answer new c)
   all-executed new (Ok answer) executed = after-executed new answer executed
   all-executed new (Err error) executed = tt
 
-  pub all-failed : (result : Result Reply ExecuteError) → OnErr result (Failed tells e b s now c) → OnErr result (Failed tells e a s now c)
+  pub all-failed : (result : Result Reply Trouble) → OnErr result (Failed tells e b s now c) → OnErr result (Failed tells e a s now c)
   all-failed (Ok answer) failed = tt
   all-failed (Err error) failed = after-failed failed
 

@@ -1,7 +1,6 @@
 -- A plan of a whole restore gives what an engine asks for to park its set and to bring it up.
-use Rattle.std.proofs.Common.{◌≡◌, ◌<◌, ◌≤◌, inl, inr, ℕ, ◌+◌, List, [], ◌∷◌, length, Some, Err, refl, sym, ◌∙◌, ap, subst, arith}
+use Rattle.std.proofs.Common.{◌≡◌, ◌<◌, ◌≤◌, inl, inr, ℕ, ◌+◌, List, [], ◌∷◌, length, Some, refl, sym, ◌∙◌, ap, subst, arith}
 use Rattle.std.specs.List.{AllByRecursion}
-use Rattle.std.specs.Prelude.{IsErrOf}
 use Rattle.bk_archive.specs.Media.{IsMediumFile}
 use Rattle.bk_body.specs.Slots.{holds}
 use Rattle.bk_device.specs.Calls.{contents}
@@ -28,8 +27,6 @@ use Rattle.bk_media_plans.specs.RestorePlans.{AreOfRestore, ending_of}
 use Rattle.bk_restarts.specs.Crashes.{CutIn}
 use Rattle.bk_restarts.specs.CutLaws.{cut-act, cut-first, cut-later}
 use Rattle.bk_stores.specs.Stores.{IsOurs as IsOfStores}
-use Rattle.bk_stores.specs.declared.error.StoresError.{StoresError}
-use Rattle.bk_stores.specs.declared.error.StoresError.TheVariants as stores
 use Rattle.bk_volume.specs.Laws.{staging_apart}
 use Rattle.bk_volume.specs.Media.{slot_at}
 use Rattle.bk_volume.specs.Stored.{IsOf, Stored}
@@ -38,9 +35,6 @@ use Rattle.bk_world.specs.Cut.{end_behind}
 use Rattle.bk_world.specs.declared.database.TableSpec.{TableSpec}
 use Rattle.bk_world.specs.declared.header.Header.{Header}
 use Rattle.bk_world.specs.Telling.{tables}
-use Rattle.bk_executing.specs.Errors.{stores_error}
-use Rattle.bk_executing.specs.declared.error.ExecuteError.{ExecuteError}
-use Rattle.bk_executing.specs.declared.error.ExecuteError.TheVariants.{Broken}
 use Rattle.bk_executing.specs.Restoring.{found_under, known_in, spec_in}
 use Rattle.bk_executing.proofs.Files.{NameLaw, none-of-set, specs-bytes}
 
@@ -205,12 +199,3 @@ module _ (law : NameLaw) (e : Kept) (a b : Disk) (name : List ℕ) (set : Stored
     pub bring-never : Whenever spoken (λ w. ⊥) → Always (λ w acts. ⊥)
     bring-never never w log acts stands there are =
         subst (λ (called : List ℕ). Whenever called (λ w. ⊥)) same_name never (parked w) (parks new does w log acts stands are) (set-stays a b medium set is_medium touches there) (bring-may w log acts stands are)
-
--- ---- what ends as broken
-
--- a call that never answers that the instance isn't one ends so by what is broken
-pub stores-broken : {A B : Type 0} (error : StoresError) → (IsErrOf {T = B} {E = StoresError} (Err error) stores.NotAnInstance → ⊥) → IsErrOf {T = A} {E = ExecuteError} (Err (stores_error error)) Broken → IsErrOf {T = B} {E = StoresError} (Err error) stores.Broken
-stores-broken stores.NotAnInstance none is = absurd (none refl)
-stores-broken stores.Broken none is = refl
-stores-broken stores.Fault none is = absurd (cc)
-stores-broken stores.NoMemory none is = absurd (cc)

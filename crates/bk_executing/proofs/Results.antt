@@ -1,8 +1,11 @@
 -- What holds of results, and of a device that is the same.
 use Rattle.std.proofs.Common.{◌≡◌, ℕ, List, Ok, Err, refl, subst}
-use Rattle.std.specs.Prelude.{OnErr, OnOk, Result}
+use Rattle.std.specs.Prelude.{IfErr, IfOk, IsErrOf, OnErr, OnOk, Result}
 use Rattle.bk_device.specs.Disk.{Disk, Files}
 use Rattle.bk_device.specs.Effects.{Effect}
+use Rattle.bk_device.specs.Troubles.{IsPassing}
+use Rattle.bk_device.specs.declared.trouble.Trouble.{Trouble}
+use Rattle.bk_device.specs.declared.trouble.Trouble.TheVariants.{Broken}
 
 -- what holds of each value
 pub on-all : {A E Q : Type 0} (result : Result A E) → ((value : A) → result ≡ Ok value → Q) → OnOk result Q
@@ -11,6 +14,10 @@ on-all (Err error) holds = tt
 
 pub of-ok : {A E P : Type 0} (result : Result A E) (value : A) → result ≡ Ok value → OnOk result P → P
 of-ok {P = P} result value is holds = subst (λ r. OnOk r P) is holds
+
+-- what passes isn't broken
+pub not-broken : {A : Type 0} (result : Result A Trouble) → IfErr result IsPassing → IsErrOf result Broken → ⊥
+not-broken result passing is = subst (λ r. IfErr r IsPassing) is passing
 
 -- what holds of any result holds on its error
 pub on-error : {A E : Type 0} (result : Result A E) {P : Type 0} → P → OnErr result P

@@ -8,6 +8,7 @@ use Rattle.bk_device.specs.Compose.{effect_then}
 use Rattle.bk_device.specs.Disk.{Disk, IsLawful}
 use Rattle.bk_device.specs.Effects.{Effect}
 use Rattle.bk_device.specs.Laws.{effect_after_nothing}
+use Rattle.bk_device.specs.declared.trouble.Trouble.{Trouble}
 use Rattle.bk_engine.specs.Stands.{IsOurs, Kept, StandsFor}
 use Rattle.bk_engine.specs.Touched.{IsAt, TouchesOnly}
 use Rattle.bk_engine.specs.TouchLaws.{wider-touch}
@@ -29,7 +30,6 @@ use Rattle.bk_restarts.specs.Crashes.{CutIn}
 use Rattle.bk_world.specs.declared.reply.Reply.{Reply}
 use Rattle.bk_world.specs.declared.rule.Rule.{Rule}
 use Rattle.bk_world.specs.Medium.{medium_at}
-use Rattle.bk_executing.specs.declared.error.ExecuteError.{ExecuteError}
 use Rattle.bk_executing.specs.Executing.{Executed, Failed}
 use Rattle.bk_executing.specs.Planned.{IsPlanned, IsWaitPlanned}
 use Rattle.bk_executing.proofs.Other.{DoWhatTheyMay}
@@ -93,7 +93,7 @@ module _ {tells : Type 0} (e new : Kept) (a b c : Disk) (s : ScriptEntry) (now s
   spares-so : (tells → TouchesOnly (IsAt finish.path) b c) → tells → (w : World) → StandsFor a e w → TouchesOnly (ActsWrite plans.outcome.acts) a c
   spares-so touches told w stands = effect_then (touches-nothing (call told)) (wider-touch (finish-writes w now sets finish plans.outcome.acts (acts-are told w stands)) (touches told))
 
-  pub end-executed : (result : Result Reply ExecuteError) → IfOk result (λ answer. answer ≡ finish.reply)
+  pub end-executed : (result : Result Reply Trouble) → IfOk result (λ answer. answer ≡ finish.reply)
       → (tells → (w : World) (now sets : ℕ) (acts : List Act) → StandsFor b e w → AreFinishing w now sets finish acts → OnOk result (StandsFor c new (done_all w acts)))
       → (tells → (w : World) (now sets : ℕ) (acts : List Act) → StandsFor b e w → AreFinishing w now sets finish acts → Effect IsOurs (CutIn w acts) b c) → (tells → TouchesOnly (IsAt finish.path) b c)
       → IfOk result (λ answer. Executed tells e a s now answer new c)
@@ -108,7 +108,7 @@ module _ {tells : Type 0} (e new : Kept) (a b c : Disk) (s : ScriptEntry) (now s
   }
   end-executed (Err error) replies does crash touches = tt
 
-  pub end-failed : (result : Result Reply ExecuteError) → (tells → (w : World) (now sets : ℕ) (acts : List Act) → StandsFor b e w → AreFinishing w now sets finish acts → Effect IsOurs (CutIn w acts) b c) → (tells → TouchesOnly (IsAt finish.path) b c)
+  pub end-failed : (result : Result Reply Trouble) → (tells → (w : World) (now sets : ℕ) (acts : List Act) → StandsFor b e w → AreFinishing w now sets finish acts → Effect IsOurs (CutIn w acts) b c) → (tells → TouchesOnly (IsAt finish.path) b c)
       → OnErr result (Failed tells e a s now c)
   end-failed (Ok answer) crash touches = tt
   end-failed (Err error) crash touches = inr (record { outcome = plans.outcome; may = may-so; crash = cuts-so crash; spares = spares-so touches })

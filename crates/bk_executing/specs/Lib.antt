@@ -1,5 +1,4 @@
 pub mod Closing
-pub mod Errors
 pub mod Executing
 pub mod Parts
 pub mod Planned

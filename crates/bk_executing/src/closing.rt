@@ -4,12 +4,12 @@ ghost use Rattle.bk_acts.specs.Conditions.{KeepsAct};
 ghost use Rattle.bk_device.specs.Calls.{ChangesNothing};
 ghost use Rattle.bk_device.specs.Counts.{HasCause};
 ghost use Rattle.bk_device.specs.Effects.{Effect};
+ghost use Rattle.bk_device.specs.Troubles.{IsPassing};
 ghost use Rattle.bk_engine.specs.Loading.{Leaves};
 ghost use Rattle.bk_engine.specs.Stands.{IsOurs, IsReady, NamesSet, StandsFor, own_in};
 ghost use Rattle.bk_engine.specs.Touched.{NoMedium, TouchesOnly};
 ghost use Rattle.bk_engine.specs.Viewing.{Remembers};
 ghost use Rattle.bk_executing.specs.Closing.{CutsClosing, CutsEnd, DropsJobs, RollsAll, RollsFirst, RollsSeen};
-ghost use Rattle.bk_executing.specs.declared.error.ExecuteError.TheVariants.{Broken, Fault};
 ghost use Rattle.bk_kept.specs.Keeps.{database_of};
 ghost use Rattle.bk_machine.specs.Acts.{Act, done, done_all};
 ghost use Rattle.bk_machine.specs.Closing as closing;
@@ -18,19 +18,16 @@ ghost use Rattle.bk_machine.specs.Sound.{AreIdle};
 ghost use Rattle.bk_machine.specs.World.{Held, World, ended};
 ghost use Rattle.bk_machine.specs.statements.Rollback.{rolls_back};
 ghost use Rattle.bk_restarts.specs.Crashes.{CutIn};
-ghost use Rattle.bk_stores.specs.Errors.{IsTrouble};
 ghost use Rattle.bk_stores.specs.Standing.{AreStanding};
 
 use crate::doing::do_act;
-use crate::error::ExecuteError;
 use bk_acts::StoredAct;
 use bk_asked::first_held;
-use bk_device::Device;
+use bk_device::{Device, Trouble};
 use bk_engine::Engine;
 use bk_kept::{InstanceView, leave_numbers};
 use bk_machine::{runs_are_closed, runs_are_closed_one_by_one};
 use bk_planning::rollback_act;
-use bk_stores::StoresError;
 use std::alloc::{AllocError, Global};
 
 // How many transactions are open that are seen.
@@ -81,12 +78,11 @@ fn rolling_back(engine: &Engine) -> Result<Option<StoredAct>, AllocError>
 {
     let ends = engine.ends(engine.alloc())?;
     let seen = engine.view(engine.alloc(), &ends)?;
-    let act = rolling_back_seen(engine.alloc(), &seen)?;
-    Ok(act)
+    rolling_back_seen(engine.alloc(), &seen)
 }
 
 // No backup runs any more. A crash leaves the world before it.
-fn drop_jobs<D: Device>(engine: &mut Engine, dev: &mut D) -> Result<(), StoresError>
+fn drop_jobs<D: Device>(engine: &mut Engine, dev: &mut D) -> Result<(), Trouble>
     requires ready { IsReady engine.old }
     requires none { (own_in engine.old).staging ≡ None }
     requires standing { D.tells → AreStanding (D.disk dev.old) engine.old.hosting.stores }
@@ -97,8 +93,8 @@ fn drop_jobs<D: Device>(engine: &mut Engine, dev: &mut D) -> Result<(), StoresEr
     ensures crash { D.tells → (w : World) → StandsFor (D.disk dev.old) engine.old w → CutsClosing w (D.disk dev.old) (D.disk dev.new) }
     ensures still { D.tells → (w : World) → StandsFor (D.disk dev.old) engine.old w → AreIdle w → (dev.new ≡ dev.old) × OnOk result (engine.new ≡ engine.old) }
     ensures touches { D.tells → TouchesOnly NoMedium (D.disk dev.old) (D.disk dev.new) }
-    ensures trouble { IfErr result IsTrouble }
-    ensures cause { HasCause D.disk_faults D.tell_faults dev.old dev.new (IsErrOf result StoresError.Fault) }
+    ensures trouble { IfErr result IsPassing }
+    ensures cause { HasCause D.disk_faults D.tell_faults dev.old dev.new (IsErrOf result Trouble.Fault) }
 {
     runs_are_closed_one_by_one();
     engine.drop_sets(dev)?;
@@ -106,7 +102,7 @@ fn drop_jobs<D: Device>(engine: &mut Engine, dev: &mut D) -> Result<(), StoresEr
 }
 
 // Rolls the first open transaction back, if one is open.
-fn roll_back<D: Device>(engine: &mut Engine, dev: &mut D) -> Result<(), StoresError>
+fn roll_back<D: Device>(engine: &mut Engine, dev: &mut D) -> Result<(), Trouble>
     requires ready { IsReady engine.old }
     requires standing { D.tells → AreStanding (D.disk dev.old) engine.old.hosting.stores }
     ensures ready { OnOk result (IsReady engine.new) }
@@ -115,8 +111,8 @@ fn roll_back<D: Device>(engine: &mut Engine, dev: &mut D) -> Result<(), StoresEr
     ensures rolls { D.tells → (w : World) (held : Held) → StandsFor (D.disk dev.old) engine.old w → IsFirst w held → OnOk result (StandsFor (D.disk dev.new) engine.new (done w (rolls_back w held))) }
     ensures crash { D.tells → (w : World) (held : Held) → StandsFor (D.disk dev.old) engine.old w → IsFirst w held → Effect IsOurs (CutIn w (rolls_back w held ∷ [])) (D.disk dev.old) (D.disk dev.new) }
     ensures touches { D.tells → TouchesOnly NoMedium (D.disk dev.old) (D.disk dev.new) }
-    ensures trouble { IfErr result IsTrouble }
-    ensures cause { HasCause D.disk_faults D.tell_faults dev.old dev.new (IsErrOf result StoresError.Fault) }
+    ensures trouble { IfErr result IsPassing }
+    ensures cause { HasCause D.disk_faults D.tell_faults dev.old dev.new (IsErrOf result Trouble.Fault) }
 {
     runs_are_closed_one_by_one();
     engine.at_rest(dev);
@@ -129,7 +125,7 @@ fn roll_back<D: Device>(engine: &mut Engine, dev: &mut D) -> Result<(), StoresEr
 }
 
 // Rolls all open transactions back, by rising session.
-fn roll_all_back<D: Device>(engine: &mut Engine, dev: &mut D) -> Result<(), StoresError>
+fn roll_all_back<D: Device>(engine: &mut Engine, dev: &mut D) -> Result<(), Trouble>
     requires ready { IsReady engine.old }
     requires standing { D.tells → AreStanding (D.disk dev.old) engine.old.hosting.stores }
     ensures ready { OnOk result (IsReady engine.new) }
@@ -139,8 +135,8 @@ fn roll_all_back<D: Device>(engine: &mut Engine, dev: &mut D) -> Result<(), Stor
     ensures crash { D.tells → (w : World) → StandsFor (D.disk dev.old) engine.old w → CutsClosing w (D.disk dev.old) (D.disk dev.new) }
     ensures still { D.tells → (w : World) → StandsFor (D.disk dev.old) engine.old w → AreIdle w → (dev.new ≡ dev.old) × OnOk result (engine.new ≡ engine.old) }
     ensures touches { D.tells → TouchesOnly NoMedium (D.disk dev.old) (D.disk dev.new) }
-    ensures trouble { IfErr result IsTrouble }
-    ensures cause { HasCause D.disk_faults D.tell_faults dev.old dev.new (IsErrOf result StoresError.Fault) }
+    ensures trouble { IfErr result IsPassing }
+    ensures cause { HasCause D.disk_faults D.tell_faults dev.old dev.new (IsErrOf result Trouble.Fault) }
 {
     runs_are_closed_one_by_one();
     engine.at_rest(dev);
@@ -155,7 +151,7 @@ fn roll_all_back<D: Device>(engine: &mut Engine, dev: &mut D) -> Result<(), Stor
 /// changed. A crash leaves a front of this, or the world behind it in which the run has ended. The engine isn't used again.
 ///
 /// `Broken` comes only where the engine stands for no world.
-pub fn close<D: Device>(engine: &mut Engine, dev: &mut D) -> Result<(), ExecuteError>
+pub fn close<D: Device>(engine: &mut Engine, dev: &mut D) -> Result<(), Trouble>
     requires ready { IsReady engine.old }
     requires none { (own_in engine.old).staging ≡ None }
     requires standing { D.tells → AreStanding (D.disk dev.old) engine.old.hosting.stores }
@@ -164,13 +160,12 @@ pub fn close<D: Device>(engine: &mut Engine, dev: &mut D) -> Result<(), ExecuteE
     ensures crash { D.tells → (number : ℕ) (w : World) → StandsFor (D.disk dev.old) engine.old w → (acts : List Act) × AreClosing w acts × Effect IsOurs (CutsEnd number w acts) (D.disk dev.old) (D.disk dev.new) }
     ensures still { D.tells → (own_in engine.old).counter ≡ engine.old.drawn → (w : World) → StandsFor (D.disk dev.old) engine.old w → AreIdle w → ChangesNothing (D.disk dev.old) (D.disk dev.new) }
     ensures touches { D.tells → TouchesOnly NoMedium (D.disk dev.old) (D.disk dev.new) }
-    ensures broken { D.tells → IsErrOf result Broken → (w : World) → StandsFor (D.disk dev.old) engine.old w → ⊥ }
-    ensures cause { HasCause D.disk_faults D.tell_faults dev.old dev.new (IsErrOf result Fault) }
+    ensures broken { D.tells → IsErrOf result Trouble.Broken → (w : World) → StandsFor (D.disk dev.old) engine.old w → ⊥ }
+    ensures cause { HasCause D.disk_faults D.tell_faults dev.old dev.new (IsErrOf result Trouble.Fault) }
 {
     runs_are_closed();
     runs_are_closed_one_by_one();
     drop_jobs(engine, dev)?;
     roll_all_back(engine, dev)?;
-    engine.close(dev)?;
-    Ok(())
+    engine.close(dev)
 }

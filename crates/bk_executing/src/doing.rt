@@ -3,20 +3,19 @@ ghost use Rattle.std.specs.Prelude.{◌≤◌, OnOk, IfErr, IsErrOf};
 ghost use Rattle.bk_acts.specs.Conditions.{KeepsAct};
 ghost use Rattle.bk_acts.specs.declared.act.StoredAct.TheVariants as kind;
 ghost use Rattle.bk_device.specs.Counts.{HasCause};
+ghost use Rattle.bk_device.specs.Troubles.{IsPassing};
 ghost use Rattle.bk_engine.specs.Stands.{IsReady, NamesSet, own_in};
 ghost use Rattle.bk_engine.specs.Touched.{NoMedium, TouchesOnly};
 ghost use Rattle.bk_executing.specs.Parts.{CutsStored, DoesStored};
-ghost use Rattle.bk_stores.specs.Errors.{IsTrouble};
 ghost use Rattle.bk_stores.specs.Standing.{AreStanding};
 
 use crate::copies::copy_creation;
 use bk_acts::StoredAct;
-use bk_device::Device;
+use bk_device::{Device, Trouble};
 use bk_engine::Engine;
 use bk_ids::{Name, Rec, Sequence};
 use bk_kept::copy_transactions;
 use bk_side::name_law;
-use bk_stores::StoresError;
 use bk_world::{Creation, FileSpec, Open};
 
 // At most so many pages of a database are kept in memory, of 8 KiB each.
@@ -35,11 +34,7 @@ fn frames_of(files: &[FileSpec]) -> usize
 }
 
 // Makes a database.
-fn create<D: Device>(
-    engine: &mut Engine,
-    dev: &mut D,
-    creation: &Creation,
-) -> Result<(), StoresError>
+fn create<D: Device>(engine: &mut Engine, dev: &mut D, creation: &Creation) -> Result<(), Trouble>
     requires ready { IsReady engine.old }
     requires keeps { KeepsAct (kind.Created creation.now) }
     requires standing { D.tells → AreStanding (D.disk dev.old) engine.old.hosting.stores }
@@ -49,8 +44,8 @@ fn create<D: Device>(
     ensures does { D.tells → OnOk result (DoesStored engine.old (D.disk dev.old) (kind.Created creation.now) engine.new (D.disk dev.new)) }
     ensures crash { D.tells → CutsStored engine.old (D.disk dev.old) (kind.Created creation.now) (D.disk dev.new) }
     ensures touches { D.tells → TouchesOnly NoMedium (D.disk dev.old) (D.disk dev.new) }
-    ensures trouble { IfErr result IsTrouble }
-    ensures cause { HasCause D.disk_faults D.tell_faults dev.old dev.new (IsErrOf result StoresError.Fault) }
+    ensures trouble { IfErr result IsPassing }
+    ensures cause { HasCause D.disk_faults D.tell_faults dev.old dev.new (IsErrOf result Trouble.Fault) }
 {
     name_law();
     engine.at_rest(dev);
@@ -66,7 +61,7 @@ fn say<D: Device>(
     name: &Name,
     transactions: &Sequence<Open>,
     records: &Sequence<Rec>,
-) -> Result<(), StoresError>
+) -> Result<(), Trouble>
     requires ready { IsReady engine.old }
     requires keeps { KeepsAct (kind.Logged name.now transactions.now records.now) }
     requires standing { D.tells → AreStanding (D.disk dev.old) engine.old.hosting.stores }
@@ -76,8 +71,8 @@ fn say<D: Device>(
     ensures does { D.tells → OnOk result (DoesStored engine.old (D.disk dev.old) (kind.Logged name.now transactions.now records.now) engine.new (D.disk dev.new)) }
     ensures crash { D.tells → CutsStored engine.old (D.disk dev.old) (kind.Logged name.now transactions.now records.now) (D.disk dev.new) }
     ensures touches { D.tells → TouchesOnly NoMedium (D.disk dev.old) (D.disk dev.new) }
-    ensures trouble { IfErr result IsTrouble }
-    ensures cause { HasCause D.disk_faults D.tell_faults dev.old dev.new (IsErrOf result StoresError.Fault) }
+    ensures trouble { IfErr result IsPassing }
+    ensures cause { HasCause D.disk_faults D.tell_faults dev.old dev.new (IsErrOf result Trouble.Fault) }
 {
     engine.at_rest(dev);
     let transactions = copy_transactions(engine.alloc(), transactions.as_slice())?;
@@ -89,7 +84,7 @@ pub(crate) fn do_act<D: Device>(
     engine: &mut Engine,
     dev: &mut D,
     act: &StoredAct,
-) -> Result<(), StoresError>
+) -> Result<(), Trouble>
     requires ready { IsReady engine.old }
     requires keeps { KeepsAct act.now }
     requires standing { D.tells → AreStanding (D.disk dev.old) engine.old.hosting.stores }
@@ -99,8 +94,8 @@ pub(crate) fn do_act<D: Device>(
     ensures does { D.tells → OnOk result (DoesStored engine.old (D.disk dev.old) act.now engine.new (D.disk dev.new)) }
     ensures crash { D.tells → CutsStored engine.old (D.disk dev.old) act.now (D.disk dev.new) }
     ensures touches { D.tells → TouchesOnly NoMedium (D.disk dev.old) (D.disk dev.new) }
-    ensures trouble { IfErr result IsTrouble }
-    ensures cause { HasCause D.disk_faults D.tell_faults dev.old dev.new (IsErrOf result StoresError.Fault) }
+    ensures trouble { IfErr result IsPassing }
+    ensures cause { HasCause D.disk_faults D.tell_faults dev.old dev.new (IsErrOf result Trouble.Fault) }
 {
     match act {
         StoredAct::Created { creation } => create(engine, dev, creation),

@@ -1,13 +1,13 @@
 // How an engine follows a plan.
-ghost use Rattle.std.specs.Prelude.{◌≡◌, [], None, IfOk, OnOk, IsErrOf};
+ghost use Rattle.std.specs.Prelude.{◌≡◌, [], None, IfErr, IfOk, OnOk, IsErrOf};
 ghost use Rattle.std.specs.List.{AllByRecursion};
 ghost use Rattle.bk_device.specs.Counts.{HasCause};
 ghost use Rattle.bk_device.specs.Effects.{Effect};
+ghost use Rattle.bk_device.specs.Troubles.{IsPassing};
 ghost use Rattle.bk_engine.specs.Stands.{Covers, IsOurs, IsReady, NamesSet, StandsFor, own_in};
 ghost use Rattle.bk_engine.specs.Touched.{NoMedium, TouchesOnly};
 ghost use Rattle.bk_executing.specs.Executing.{Rests};
 ghost use Rattle.bk_executing.specs.Parts.{CutsPart, CutsParts, CutsPlan, CutsReadying, DoesPart, DoesParts, DoesPlan, DoesReadying, HasNoParts, PartWrites, PartsWrite, PlanWrites};
-ghost use Rattle.bk_executing.specs.declared.error.ExecuteError.TheVariants.{Broken, Fault};
 ghost use Rattle.bk_machine.specs.Acts.{done, readied};
 ghost use Rattle.bk_machine.specs.World.{World};
 ghost use Rattle.bk_plans.specs.Planning.{KeepsPart, KeepsPlan, reply_of};
@@ -16,9 +16,8 @@ ghost use Rattle.bk_plans.specs.declared.parts.Plan.TheVariants as plan;
 ghost use Rattle.bk_stores.specs.Standing.{AreStanding};
 
 use crate::doing::do_act;
-use crate::error::ExecuteError;
 use bk_acts::StoredAct;
-use bk_device::Device;
+use bk_device::{Device, Trouble};
 use bk_engine::Engine;
 use bk_ids::{Name, Text};
 use bk_machine::{HistoryRow, Job};
@@ -27,11 +26,7 @@ use bk_sealing::seal_database;
 use bk_world::{Header, Reply};
 
 // Does an act that outlasts the run.
-fn do_stored<D: Device>(
-    engine: &mut Engine,
-    dev: &mut D,
-    act: &StoredAct,
-) -> Result<(), ExecuteError>
+fn do_stored<D: Device>(engine: &mut Engine, dev: &mut D, act: &StoredAct) -> Result<(), Trouble>
     requires ready { IsReady engine.old }
     requires keeps { KeepsPart (part.Stored act.now) }
     requires none { (own_in engine.old).staging ≡ None }
@@ -42,15 +37,14 @@ fn do_stored<D: Device>(
     ensures does { D.tells → OnOk result (DoesPart engine.old (D.disk dev.old) (part.Stored act.now) engine.new (D.disk dev.new)) }
     ensures crash { D.tells → CutsPart engine.old (D.disk dev.old) (part.Stored act.now) (D.disk dev.new) }
     ensures touches { D.tells → TouchesOnly (PartWrites (part.Stored act.now)) (D.disk dev.old) (D.disk dev.new) }
-    ensures sound { IsErrOf result Broken → ⊥ }
-    ensures cause { HasCause D.disk_faults D.tell_faults dev.old dev.new (IsErrOf result Fault) }
+    ensures trouble { IfErr result IsPassing }
+    ensures cause { HasCause D.disk_faults D.tell_faults dev.old dev.new (IsErrOf result Trouble.Fault) }
 {
-    do_act(engine, dev, act)?;
-    Ok(())
+    do_act(engine, dev, act)
 }
 
 // Makes a medium.
-fn make_medium<D: Device>(engine: &mut Engine, dev: &mut D, path: &Text) -> Result<(), ExecuteError>
+fn make_medium<D: Device>(engine: &mut Engine, dev: &mut D, path: &Text) -> Result<(), Trouble>
     requires ready { IsReady engine.old }
     requires keeps { KeepsPart (part.MediumMade path.now) }
     requires none { (own_in engine.old).staging ≡ None }
@@ -61,15 +55,14 @@ fn make_medium<D: Device>(engine: &mut Engine, dev: &mut D, path: &Text) -> Resu
     ensures does { D.tells → OnOk result (DoesPart engine.old (D.disk dev.old) (part.MediumMade path.now) engine.new (D.disk dev.new)) }
     ensures crash { D.tells → CutsPart engine.old (D.disk dev.old) (part.MediumMade path.now) (D.disk dev.new) }
     ensures touches { D.tells → TouchesOnly (PartWrites (part.MediumMade path.now)) (D.disk dev.old) (D.disk dev.new) }
-    ensures sound { IsErrOf result Broken → ⊥ }
-    ensures cause { HasCause D.disk_faults D.tell_faults dev.old dev.new (IsErrOf result Fault) }
+    ensures trouble { IfErr result IsPassing }
+    ensures cause { HasCause D.disk_faults D.tell_faults dev.old dev.new (IsErrOf result Trouble.Fault) }
 {
-    engine.make_medium(dev, path)?;
-    Ok(())
+    engine.make_medium(dev, path)
 }
 
 // Draws the GUID of a set that comes behind those on a medium.
-fn draw_set<D: Device>(engine: &mut Engine, dev: &mut D) -> Result<(), ExecuteError>
+fn draw_set<D: Device>(engine: &mut Engine, dev: &mut D) -> Result<(), Trouble>
     requires ready { IsReady engine.old }
     requires none { (own_in engine.old).staging ≡ None }
     requires standing { D.tells → AreStanding (D.disk dev.old) engine.old.hosting.stores }
@@ -79,11 +72,10 @@ fn draw_set<D: Device>(engine: &mut Engine, dev: &mut D) -> Result<(), ExecuteEr
     ensures does { D.tells → OnOk result (DoesPart engine.old (D.disk dev.old) part.SetDrawn engine.new (D.disk dev.new)) }
     ensures crash { D.tells → CutsPart engine.old (D.disk dev.old) part.SetDrawn (D.disk dev.new) }
     ensures touches { D.tells → TouchesOnly (PartWrites part.SetDrawn) (D.disk dev.old) (D.disk dev.new) }
-    ensures sound { IsErrOf result Broken → ⊥ }
-    ensures cause { HasCause D.disk_faults D.tell_faults dev.old dev.new (IsErrOf result Fault) }
+    ensures trouble { IfErr result IsPassing }
+    ensures cause { HasCause D.disk_faults D.tell_faults dev.old dev.new (IsErrOf result Trouble.Fault) }
 {
-    engine.draw_set(dev)?;
-    Ok(())
+    engine.draw_set(dev)
 }
 
 // Seals the set with this header on the medium at a path.
@@ -92,7 +84,7 @@ fn seal_set<D: Device>(
     dev: &mut D,
     path: &Text,
     header: &Header,
-) -> Result<(), ExecuteError>
+) -> Result<(), Trouble>
     requires ready { IsReady engine.old }
     requires keeps { KeepsPart (part.SetSealed path.now header.now) }
     requires none { (own_in engine.old).staging ≡ None }
@@ -103,15 +95,14 @@ fn seal_set<D: Device>(
     ensures does { D.tells → OnOk result (DoesPart engine.old (D.disk dev.old) (part.SetSealed path.now header.now) engine.new (D.disk dev.new)) }
     ensures crash { D.tells → CutsPart engine.old (D.disk dev.old) (part.SetSealed path.now header.now) (D.disk dev.new) }
     ensures touches { D.tells → TouchesOnly (PartWrites (part.SetSealed path.now header.now)) (D.disk dev.old) (D.disk dev.new) }
-    ensures sound { IsErrOf result Broken → ⊥ }
-    ensures cause { HasCause D.disk_faults D.tell_faults dev.old dev.new (IsErrOf result Fault) }
+    ensures trouble { IfErr result IsPassing }
+    ensures cause { HasCause D.disk_faults D.tell_faults dev.old dev.new (IsErrOf result Trouble.Fault) }
 {
-    seal_database(engine, dev, path, header)?;
-    Ok(())
+    seal_database(engine, dev, path, header)
 }
 
 // Adds a row to its table of msdb.
-fn note<D: Device>(engine: &mut Engine, dev: &mut D, row: &HistoryRow) -> Result<(), ExecuteError>
+fn note<D: Device>(engine: &mut Engine, dev: &mut D, row: &HistoryRow) -> Result<(), Trouble>
     requires ready { IsReady engine.old }
     requires keeps { KeepsPart (part.Noted row.now) }
     requires none { (own_in engine.old).staging ≡ None }
@@ -122,11 +113,10 @@ fn note<D: Device>(engine: &mut Engine, dev: &mut D, row: &HistoryRow) -> Result
     ensures does { D.tells → OnOk result (DoesPart engine.old (D.disk dev.old) (part.Noted row.now) engine.new (D.disk dev.new)) }
     ensures crash { D.tells → CutsPart engine.old (D.disk dev.old) (part.Noted row.now) (D.disk dev.new) }
     ensures touches { D.tells → TouchesOnly (PartWrites (part.Noted row.now)) (D.disk dev.old) (D.disk dev.new) }
-    ensures sound { IsErrOf result Broken → ⊥ }
-    ensures cause { HasCause D.disk_faults D.tell_faults dev.old dev.new (IsErrOf result Fault) }
+    ensures trouble { IfErr result IsPassing }
+    ensures cause { HasCause D.disk_faults D.tell_faults dev.old dev.new (IsErrOf result Trouble.Fault) }
 {
-    engine.note(dev, row)?;
-    Ok(())
+    engine.note(dev, row)
 }
 
 // The backup of the database of this name starts.
@@ -135,7 +125,7 @@ fn begin_job<D: Device>(
     dev: &mut D,
     name: &Name,
     job: &Job,
-) -> Result<(), ExecuteError>
+) -> Result<(), Trouble>
     requires ready { IsReady engine.old }
     requires keeps { KeepsPart (part.JobBegun name.now job.now) }
     requires none { (own_in engine.old).staging ≡ None }
@@ -146,13 +136,12 @@ fn begin_job<D: Device>(
     ensures does { D.tells → OnOk result (DoesPart engine.old (D.disk dev.old) (part.JobBegun name.now job.now) engine.new (D.disk dev.new)) }
     ensures crash { D.tells → CutsPart engine.old (D.disk dev.old) (part.JobBegun name.now job.now) (D.disk dev.new) }
     ensures touches { D.tells → TouchesOnly (PartWrites (part.JobBegun name.now job.now)) (D.disk dev.old) (D.disk dev.new) }
-    ensures sound { IsErrOf result Broken → ⊥ }
-    ensures cause { HasCause D.disk_faults D.tell_faults dev.old dev.new (IsErrOf result Fault) }
+    ensures trouble { IfErr result IsPassing }
+    ensures cause { HasCause D.disk_faults D.tell_faults dev.old dev.new (IsErrOf result Trouble.Fault) }
 {
     engine.at_rest(dev);
     let job = job.copy(engine.alloc())?;
-    engine.start_set(dev, name.as_str(), job)?;
-    Ok(())
+    engine.start_set(dev, name.as_str(), job)
 }
 
 // So many more of the extents are copied that are left to the backup of the database of this name.
@@ -161,7 +150,7 @@ fn step_job<D: Device>(
     dev: &mut D,
     name: &Name,
     count: u64,
-) -> Result<(), ExecuteError>
+) -> Result<(), Trouble>
     requires ready { IsReady engine.old }
     requires keeps { KeepsPart (part.JobStepped name.now count) }
     requires none { (own_in engine.old).staging ≡ None }
@@ -172,15 +161,14 @@ fn step_job<D: Device>(
     ensures does { D.tells → OnOk result (DoesPart engine.old (D.disk dev.old) (part.JobStepped name.now count) engine.new (D.disk dev.new)) }
     ensures crash { D.tells → CutsPart engine.old (D.disk dev.old) (part.JobStepped name.now count) (D.disk dev.new) }
     ensures touches { D.tells → TouchesOnly (PartWrites (part.JobStepped name.now count)) (D.disk dev.old) (D.disk dev.new) }
-    ensures sound { IsErrOf result Broken → ⊥ }
-    ensures cause { HasCause D.disk_faults D.tell_faults dev.old dev.new (IsErrOf result Fault) }
+    ensures trouble { IfErr result IsPassing }
+    ensures cause { HasCause D.disk_faults D.tell_faults dev.old dev.new (IsErrOf result Trouble.Fault) }
 {
-    engine.step_set(dev, name.as_str(), count)?;
-    Ok(())
+    engine.step_set(dev, name.as_str(), count)
 }
 
 // Does one part. A crash leaves what it may leave inside of its act.
-fn do_part<D: Device>(engine: &mut Engine, dev: &mut D, part: &Part) -> Result<(), ExecuteError>
+fn do_part<D: Device>(engine: &mut Engine, dev: &mut D, part: &Part) -> Result<(), Trouble>
     requires ready { IsReady engine.old }
     requires keeps { KeepsPart part.now }
     requires none { (own_in engine.old).staging ≡ None }
@@ -191,8 +179,8 @@ fn do_part<D: Device>(engine: &mut Engine, dev: &mut D, part: &Part) -> Result<(
     ensures does { D.tells → OnOk result (DoesPart engine.old (D.disk dev.old) part.now engine.new (D.disk dev.new)) }
     ensures crash { D.tells → CutsPart engine.old (D.disk dev.old) part.now (D.disk dev.new) }
     ensures touches { D.tells → TouchesOnly (PartWrites part.now) (D.disk dev.old) (D.disk dev.new) }
-    ensures sound { IsErrOf result Broken → ⊥ }
-    ensures cause { HasCause D.disk_faults D.tell_faults dev.old dev.new (IsErrOf result Fault) }
+    ensures trouble { IfErr result IsPassing }
+    ensures cause { HasCause D.disk_faults D.tell_faults dev.old dev.new (IsErrOf result Trouble.Fault) }
 {
     match part {
         Part::Stored(act) => do_stored(engine, dev, act),
@@ -206,11 +194,7 @@ fn do_part<D: Device>(engine: &mut Engine, dev: &mut D, part: &Part) -> Result<(
 }
 
 // Does parts, one after the other. A crash leaves what it may leave inside of their acts.
-fn carry_out<D: Device>(
-    engine: &mut Engine,
-    dev: &mut D,
-    parts: &[Part],
-) -> Result<(), ExecuteError>
+fn carry_out<D: Device>(engine: &mut Engine, dev: &mut D, parts: &[Part]) -> Result<(), Trouble>
     requires ready { IsReady engine.old }
     requires keep { AllByRecursion KeepsPart parts.now }
     requires none { (own_in engine.old).staging ≡ None }
@@ -222,8 +206,8 @@ fn carry_out<D: Device>(
     ensures crash { D.tells → CutsParts engine.old (D.disk dev.old) parts.now (D.disk dev.new) }
     ensures still { D.tells → parts.now ≡ [] → OnOk result (Rests engine.old (D.disk dev.old) engine.new (D.disk dev.new)) }
     ensures touches { D.tells → TouchesOnly (PartsWrite parts.now) (D.disk dev.old) (D.disk dev.new) }
-    ensures sound { IsErrOf result Broken → ⊥ }
-    ensures cause { HasCause D.disk_faults D.tell_faults dev.old dev.new (IsErrOf result Fault) }
+    ensures trouble { IfErr result IsPassing }
+    ensures cause { HasCause D.disk_faults D.tell_faults dev.old dev.new (IsErrOf result Trouble.Fault) }
 {
     engine.at_rest(dev);
     for part in parts {
@@ -233,7 +217,7 @@ fn carry_out<D: Device>(
 }
 
 // The current session's next backup only starts from now on, or it doesn't any more.
-fn make_ready<D: Device>(engine: &mut Engine, dev: &mut D, starts: bool) -> Result<(), ExecuteError>
+fn make_ready<D: Device>(engine: &mut Engine, dev: &mut D, starts: bool) -> Result<(), Trouble>
     requires ready { IsReady engine.old }
     requires none { (own_in engine.old).staging ≡ None }
     requires standing { D.tells → AreStanding (D.disk dev.old) engine.old.hosting.stores }
@@ -244,8 +228,8 @@ fn make_ready<D: Device>(engine: &mut Engine, dev: &mut D, starts: bool) -> Resu
     ensures crash { D.tells → (w : World) → StandsFor (D.disk dev.old) engine.old w → Effect IsOurs (Covers w) (D.disk dev.old) (D.disk dev.new) }
     ensures still { D.tells → OnOk result (Rests engine.old (D.disk dev.old) engine.new (D.disk dev.new)) }
     ensures touches { D.tells → TouchesOnly NoMedium (D.disk dev.old) (D.disk dev.new) }
-    ensures sound { IsErrOf result Broken → ⊥ }
-    ensures cause { HasCause D.disk_faults D.tell_faults dev.old dev.new (IsErrOf result Fault) }
+    ensures trouble { IfErr result IsPassing }
+    ensures cause { HasCause D.disk_faults D.tell_faults dev.old dev.new (IsErrOf result Trouble.Fault) }
 {
     engine.at_rest(dev);
     engine.ready_backup(dev, starts)?;
@@ -258,7 +242,7 @@ fn carry_out_readying<D: Device>(
     dev: &mut D,
     parts: &[Part],
     starts: bool,
-) -> Result<(), ExecuteError>
+) -> Result<(), Trouble>
     requires ready { IsReady engine.old }
     requires keep { AllByRecursion KeepsPart parts.now }
     requires none { (own_in engine.old).staging ≡ None }
@@ -270,16 +254,15 @@ fn carry_out_readying<D: Device>(
     ensures crash { D.tells → CutsReadying engine.old (D.disk dev.old) parts.now starts (D.disk dev.new) }
     ensures still { D.tells → parts.now ≡ [] → OnOk result (Rests engine.old (D.disk dev.old) engine.new (D.disk dev.new)) }
     ensures touches { D.tells → TouchesOnly (PartsWrite parts.now) (D.disk dev.old) (D.disk dev.new) }
-    ensures sound { IsErrOf result Broken → ⊥ }
-    ensures cause { HasCause D.disk_faults D.tell_faults dev.old dev.new (IsErrOf result Fault) }
+    ensures trouble { IfErr result IsPassing }
+    ensures cause { HasCause D.disk_faults D.tell_faults dev.old dev.new (IsErrOf result Trouble.Fault) }
 {
     carry_out(engine, dev, parts)?;
-    make_ready(engine, dev, starts)?;
-    Ok(())
+    make_ready(engine, dev, starts)
 }
 
 // The current database of the session is another one from now on, or there is none.
-fn turn<D: Device>(engine: &mut Engine, dev: &mut D, name: Option<Text>) -> Result<(), ExecuteError>
+fn turn<D: Device>(engine: &mut Engine, dev: &mut D, name: Option<Text>) -> Result<(), Trouble>
     requires ready { IsReady engine.old }
     requires none { (own_in engine.old).staging ≡ None }
     requires standing { D.tells → AreStanding (D.disk dev.old) engine.old.hosting.stores }
@@ -290,8 +273,8 @@ fn turn<D: Device>(engine: &mut Engine, dev: &mut D, name: Option<Text>) -> Resu
     ensures crash { D.tells → CutsPlan engine.old (D.disk dev.old) (plan.Turned name) (D.disk dev.new) }
     ensures still { D.tells → OnOk result (Rests engine.old (D.disk dev.old) engine.new (D.disk dev.new)) }
     ensures touches { D.tells → TouchesOnly NoMedium (D.disk dev.old) (D.disk dev.new) }
-    ensures sound { IsErrOf result Broken → ⊥ }
-    ensures cause { HasCause D.disk_faults D.tell_faults dev.old dev.new (IsErrOf result Fault) }
+    ensures trouble { IfErr result IsPassing }
+    ensures cause { HasCause D.disk_faults D.tell_faults dev.old dev.new (IsErrOf result Trouble.Fault) }
 {
     engine.at_rest(dev);
     engine.turn(dev, name)?;
@@ -321,7 +304,7 @@ pub(crate) fn follow<D: Device>(
     engine: &mut Engine,
     dev: &mut D,
     plan: Plan,
-) -> Result<Reply, ExecuteError>
+) -> Result<Reply, Trouble>
     requires ready { IsReady engine.old }
     requires keeps { KeepsPlan plan }
     requires none { (own_in engine.old).staging ≡ None }
@@ -334,8 +317,8 @@ pub(crate) fn follow<D: Device>(
     ensures crash { D.tells → CutsPlan engine.old (D.disk dev.old) plan (D.disk dev.new) }
     ensures still { D.tells → HasNoParts plan → OnOk result (Rests engine.old (D.disk dev.old) engine.new (D.disk dev.new)) }
     ensures touches { D.tells → TouchesOnly (PlanWrites plan) (D.disk dev.old) (D.disk dev.new) }
-    ensures sound { IsErrOf result Broken → ⊥ }
-    ensures cause { HasCause D.disk_faults D.tell_faults dev.old dev.new (IsErrOf result Fault) }
+    ensures sound { IsErrOf result Trouble.Broken → ⊥ }
+    ensures cause { HasCause D.disk_faults D.tell_faults dev.old dev.new (IsErrOf result Trouble.Fault) }
 {
     match plan {
         Plan::Refused { rule } => {

@@ -5,7 +5,6 @@ mod backing_up;
 mod closing;
 mod copies;
 mod doing;
-mod error;
 mod executing;
 mod following;
 mod listing;
@@ -17,5 +16,4 @@ mod waiting;
 
 pub use bk_engine::Engine;
 pub use closing::close;
-pub use error::ExecuteError;
 pub use executing::execute;

@@ -1,18 +1,17 @@
 // SELECT of the tables of msdb.
-ghost use Rattle.std.specs.Prelude.{◌≡◌, IfOk, IsErrOf};
+ghost use Rattle.std.specs.Prelude.{◌≡◌, IfErr, IfOk, IsErrOf};
 ghost use Rattle.bk_device.specs.Calls.{ChangesNothing};
 ghost use Rattle.bk_device.specs.Counts.{HasCause};
+ghost use Rattle.bk_device.specs.Troubles.{IsPassing};
 ghost use Rattle.bk_engine.specs.Rows.{rows_in};
 ghost use Rattle.bk_executing.specs.Listing.{listed};
-ghost use Rattle.bk_executing.specs.declared.error.ExecuteError.TheVariants.{Broken, Fault};
 ghost use Rattle.bk_machine.specs.Checks.{or_refuse};
 ghost use Rattle.bk_machine.specs.World.{World};
 ghost use Rattle.bk_machine.specs.statements.Catalog.{check_catalog, rows_of};
 ghost use Rattle.bk_msdb.specs.Msdb.{Shows};
 ghost use Rattle.bk_world.specs.declared.rule.Rule.TheVariants.{NotBuilt};
 
-use crate::error::ExecuteError;
-use bk_device::Device;
+use bk_device::{Device, Trouble};
 use bk_items::Catalog;
 use bk_msdb::{Tables, read_rows};
 use bk_world::{Listing, Reply, Rule};
@@ -54,11 +53,11 @@ pub(crate) fn list<D: Device>(
     dev: &mut D,
     line: u32,
     catalog: Catalog,
-) -> Result<Reply, ExecuteError>
+) -> Result<Reply, Trouble>
     ensures replies { D.tells → (w : World) → Shows (D.disk dev.old).files (rows_in w) → IfOk result (λ answer. answer ≡ listed (check_catalog w line catalog)) }
     ensures effect { D.tells → ChangesNothing (D.disk dev.old) (D.disk dev.new) }
-    ensures sound { IsErrOf result Broken → ⊥ }
-    ensures cause { HasCause D.disk_faults D.tell_faults dev.old dev.new (IsErrOf result Fault) }
+    ensures trouble { IfErr result IsPassing }
+    ensures cause { HasCause D.disk_faults D.tell_faults dev.old dev.new (IsErrOf result Trouble.Fault) }
 {
     let tables = read_rows(alloc, dev)?;
     let listing = listing_of(tables, catalog);

@@ -16,9 +16,9 @@ ghost use Rattle.bk_media_plans.specs.RestorePlans.{KeepsRestore};
 ghost use Rattle.bk_media_plans.specs.Waits.{KeepsWait};
 ghost use Rattle.bk_kept.specs.Keeps.{Sees};
 ghost use Rattle.bk_plans.specs.Planning.{KeepsPlan, Plans, ReadsNoMedium};
-ghost use Rattle.bk_shown.specs.declared.error.TakeError.TheVariants.{Unfit};
 ghost use Rattle.bk_world.specs.Medium.{medium_at};
 
+use bk_device::Trouble;
 use bk_engine::Engine;
 use bk_ids::{Sequence, Text};
 use bk_items::{BackupOptions, RestoreOptions, RestoredUnits, ScriptEntry, UnitName};
@@ -60,11 +60,10 @@ pub(crate) fn plan_kept(
 {
     let ends = engine.ends(engine.alloc())?;
     let seen = engine.view(engine.alloc(), &ends)?;
-    let plan = plan_seen(&seen, engine.alloc(), statement, now)?;
-    Ok(plan)
+    plan_seen(&seen, engine.alloc(), statement, now)
 }
 
-/// What `BACKUP DATABASE` on this line comes to at `now`, where its medium has this room. `Unfit` comes only where the database fits no set: the engine stands for no world.
+/// What `BACKUP DATABASE` on this line comes to at `now`, where its medium has this room. `Broken` comes only where the database fits no set: the engine stands for no world.
 pub(crate) fn plan_kept_backup(
     engine: &Engine,
     line: u32,
@@ -74,22 +73,27 @@ pub(crate) fn plan_kept_backup(
     options: &BackupOptions,
     room: Result<Option<u64>, Rule>,
     now: u64,
-) -> Result<Plan, TakeError>
+) -> Result<Plan, Trouble>
     requires ready { IsReady engine.now }
     ensures plans { IfOk result (IsPlanned engine.now (λ w. ShowsRoom (medium_at w.media disk.now) room)
         (record { item = script.BackupDatabase database.now units.now disk.now options.now; line = line }) now) }
     ensures keeps { IfOk result KeepsPlan }
-    ensures unfit { IsErrOf result Unfit → (w : World) → IsSound w → Remembers engine.now w → ShowsRoom (medium_at w.media disk.now) room → ⊥ }
+    ensures broken { IsErrOf result Trouble.Broken → (w : World) → IsSound w → Remembers engine.now w → ShowsRoom (medium_at w.media disk.now) room → ⊥ }
+    ensures no_fault { IsErrOf result Trouble.Fault → ⊥ }
 {
     let alloc = engine.alloc();
     let ends = engine.ends(alloc)?;
     let seen = engine.view(alloc, &ends)?;
-    plan_backup(
+    match plan_backup(
         &seen, alloc, line, database, units, disk, options, room, now,
-    )
+    ) {
+        Ok(plan) => Ok(plan),
+        Err(TakeError::Unfit) => Err(Trouble::Broken),
+        Err(TakeError::NoMemory) => Err(Trouble::NoMemory),
+    }
 }
 
-/// What `RESTORE DATABASE` on this line comes to, which is built, by the set of its medium that it chooses, or the rule by which that is refused. `Unfit` comes only where the set keeps not what every set keeps, its log
+/// What `RESTORE DATABASE` on this line comes to, which is built, by the set of its medium that it chooses, or the rule by which that is refused. `Broken` comes only where the set keeps not what every set keeps, its log
 /// isn't what its path shows, or leaves no numbers for what its recovery says: in no world that finds this set there.
 pub(crate) fn plan_kept_restore(
     engine: &Engine,
@@ -100,18 +104,23 @@ pub(crate) fn plan_kept_restore(
     options: &RestoreOptions,
     set: Result<SetView<'_>, Rule>,
     now: u64,
-) -> Result<RestorePlan, TakeError>
+) -> Result<RestorePlan, Trouble>
     requires ready { IsReady engine.now }
     requires built { request.is_built database.now units.now disk.now options.now ≡ true }
     ensures plans { IfOk result (IsRestorePlanned engine.now (FindsSet (position_of options.now.file) disk.now set.entry) options.now set.entry
         (record { item = script.RestoreDatabase database.now units.now disk.now options.now; line = line }) now) }
     ensures keeps { IfOk result (KeepsRestore options.now set.entry) }
-    ensures unfit { IsErrOf result Unfit → (w : World) → IsSound w → Remembers engine.now w → FindsSet (position_of options.now.file) disk.now set.entry w → ⊥ }
+    ensures broken { IsErrOf result Trouble.Broken → (w : World) → IsSound w → Remembers engine.now w → FindsSet (position_of options.now.file) disk.now set.entry w → ⊥ }
+    ensures no_fault { IsErrOf result Trouble.Fault → ⊥ }
 {
     let alloc = engine.alloc();
     let ends = engine.ends(alloc)?;
     let seen = engine.view(alloc, &ends)?;
-    plan_restore(&seen, alloc, line, database, units, disk, options, set, now)
+    match plan_restore(&seen, alloc, line, database, units, disk, options, set, now) {
+        Ok(plan) => Ok(plan),
+        Err(TakeError::Unfit) => Err(Trouble::Broken),
+        Err(TakeError::NoMemory) => Err(Trouble::NoMemory),
+    }
 }
 
 // The path of the medium of the backup that runs in the current database that is seen, if one runs.
@@ -131,8 +140,7 @@ pub(crate) fn job_path(engine: &Engine) -> Result<Option<Text>, AllocError>
 {
     let ends = engine.ends(engine.alloc())?;
     let seen = engine.view(engine.alloc(), &ends)?;
-    let path = path_seen(&seen, engine.alloc())?;
-    Ok(path)
+    path_seen(&seen, engine.alloc())
 }
 
 /// What `:wait` on any line comes to at `now`, in milliseconds since 1970-01-01 00:00:00 UTC, where so many sets are on the medium of the backup that runs in the current database.
@@ -143,6 +151,5 @@ pub(crate) fn plan_kept_wait(engine: &Engine, sets: u64, now: u64) -> Result<Wai
 {
     let ends = engine.ends(engine.alloc())?;
     let seen = engine.view(engine.alloc(), &ends)?;
-    let plan = plan_wait(&seen, engine.alloc(), sets, now)?;
-    Ok(plan)
+    plan_wait(&seen, engine.alloc(), sets, now)
 }

@@ -1,10 +1,10 @@
 // RESTORE HEADERONLY, FILELISTONLY and VERIFYONLY.
-ghost use Rattle.std.specs.Prelude.{◌≡◌, None, IfOk, IsErrOf};
+ghost use Rattle.std.specs.Prelude.{◌≡◌, None, IfErr, IfOk, IsErrOf};
 ghost use Rattle.bk_archive.specs.Media.{KeepsMedia};
 ghost use Rattle.bk_device.specs.Calls.{ChangesNothing};
 ghost use Rattle.bk_device.specs.Counts.{HasCause};
+ghost use Rattle.bk_device.specs.Troubles.{IsPassing};
 ghost use Rattle.bk_executing.specs.Querying.{replied};
-ghost use Rattle.bk_executing.specs.declared.error.ExecuteError.TheVariants.{Broken, Fault};
 ghost use Rattle.bk_items.specs.declared.item.MediumQuery.TheVariants as query;
 ghost use Rattle.bk_machine.specs.Sound.{storage_in};
 ghost use Rattle.bk_machine.specs.World.{World};
@@ -14,9 +14,8 @@ ghost use Rattle.bk_world.specs.declared.reply.Reply.TheVariants as reply;
 ghost use Rattle.bk_world.specs.Medium.{medium_at};
 
 use crate::copies::storage_of;
-use crate::error::ExecuteError;
 use bk_archive::{OpenedSet, list_sets, open_set};
-use bk_device::Device;
+use bk_device::{Device, Trouble};
 use bk_ids::Text;
 use bk_items::MediumQuery;
 use bk_media_plans::position_of;
@@ -30,11 +29,11 @@ fn list_headers<D: Device>(
     dev: &mut D,
     path: &str,
     file: Option<u64>,
-) -> Result<Reply, ExecuteError>
+) -> Result<Reply, Trouble>
     ensures replies { D.tells → (w : World) → KeepsMedia w None (D.disk dev.old).files → IfOk result (λ answer. answer ≡ replied (answer_of (medium_at w.media path.now) file query.Headers)) }
     ensures effect { D.tells → ChangesNothing (D.disk dev.old) (D.disk dev.new) }
-    ensures sound { IsErrOf result Broken → ⊥ }
-    ensures cause { HasCause D.disk_faults D.tell_faults dev.old dev.new (IsErrOf result Fault) }
+    ensures trouble { IfErr result IsPassing }
+    ensures cause { HasCause D.disk_faults D.tell_faults dev.old dev.new (IsErrOf result Trouble.Fault) }
 {
     match list_sets(alloc, dev, path, file)? {
         Ok(sets) => Ok(Reply::Listed {
@@ -60,11 +59,11 @@ fn list_files<D: Device>(
     dev: &mut D,
     path: &str,
     file: Option<u64>,
-) -> Result<Reply, ExecuteError>
+) -> Result<Reply, Trouble>
     ensures replies { D.tells → (w : World) → KeepsMedia w None (D.disk dev.old).files → IfOk result (λ answer. answer ≡ replied (answer_of (medium_at w.media path.now) file query.FileList)) }
     ensures effect { D.tells → ChangesNothing (D.disk dev.old) (D.disk dev.new) }
-    ensures sound { IsErrOf result Broken → ⊥ }
-    ensures cause { HasCause D.disk_faults D.tell_faults dev.old dev.new (IsErrOf result Fault) }
+    ensures trouble { IfErr result IsPassing }
+    ensures cause { HasCause D.disk_faults D.tell_faults dev.old dev.new (IsErrOf result Trouble.Fault) }
 {
     match open_set(alloc, dev, path, position_of(file))? {
         Ok(opened) => {
@@ -82,11 +81,11 @@ fn verify<D: Device>(
     dev: &mut D,
     path: &str,
     file: Option<u64>,
-) -> Result<Reply, ExecuteError>
+) -> Result<Reply, Trouble>
     ensures replies { D.tells → (w : World) → KeepsMedia w None (D.disk dev.old).files → IfOk result (λ answer. answer ≡ replied (answer_of (medium_at w.media path.now) file query.Verify)) }
     ensures effect { D.tells → ChangesNothing (D.disk dev.old) (D.disk dev.new) }
-    ensures sound { IsErrOf result Broken → ⊥ }
-    ensures cause { HasCause D.disk_faults D.tell_faults dev.old dev.new (IsErrOf result Fault) }
+    ensures trouble { IfErr result IsPassing }
+    ensures cause { HasCause D.disk_faults D.tell_faults dev.old dev.new (IsErrOf result Trouble.Fault) }
 {
     let position = position_of(file);
     match open_set(alloc, dev, path, position)? {
@@ -103,11 +102,11 @@ pub(crate) fn answer<D: Device>(
     query: MediumQuery,
     disk: &Text,
     file: Option<u64>,
-) -> Result<Reply, ExecuteError>
+) -> Result<Reply, Trouble>
     ensures replies { D.tells → (w : World) → KeepsMedia w None (D.disk dev.old).files → IfOk result (λ answer. answer ≡ replied (check_query w line query disk.now file)) }
     ensures effect { D.tells → ChangesNothing (D.disk dev.old) (D.disk dev.new) }
-    ensures sound { IsErrOf result Broken → ⊥ }
-    ensures cause { HasCause D.disk_faults D.tell_faults dev.old dev.new (IsErrOf result Fault) }
+    ensures trouble { IfErr result IsPassing }
+    ensures cause { HasCause D.disk_faults D.tell_faults dev.old dev.new (IsErrOf result Trouble.Fault) }
 {
     let path = disk.as_str();
     if !is_path(path) {

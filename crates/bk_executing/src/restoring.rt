@@ -11,7 +11,6 @@ ghost use Rattle.bk_engine.specs.Stands.{IsOurs, IsReady, NamesSet, StandsFor, o
 ghost use Rattle.bk_engine.specs.Touched.{IsPath, NoMedium, TouchesOnly};
 ghost use Rattle.bk_executing.specs.Executing.{Executed, Failed};
 ghost use Rattle.bk_executing.specs.Restoring.{found_under};
-ghost use Rattle.bk_executing.specs.declared.error.ExecuteError.TheVariants.{Broken, Fault};
 ghost use Rattle.bk_header.specs.Conditions.{IsHeader};
 ghost use Rattle.bk_items.specs.declared.item.ScriptItem.TheVariants as script;
 ghost use Rattle.bk_machine.specs.Acts.{Act, done_all, noted};
@@ -26,12 +25,11 @@ ghost use Rattle.bk_stores.specs.Standing.{AreStanding};
 ghost use Rattle.bk_volume.specs.Stored.{IsOf};
 ghost use Rattle.bk_world.specs.Medium.{medium_at};
 
-use crate::error::ExecuteError;
 use crate::following::follow;
 use crate::parking::known_set;
 use crate::planning::plan_kept_restore;
 use bk_archive::{OpenedSet, open_set};
-use bk_device::Device;
+use bk_device::{Device, Trouble};
 use bk_engine::Engine;
 use bk_ids::{Guid, Lsn, Name, Text};
 use bk_items::{RestoreOptions, RestoredUnits};
@@ -40,6 +38,7 @@ use bk_media_plans::{RestorePlan, SetView, position_of, unbuilt_restore};
 use bk_plans::Plan;
 use bk_record::{Records, log_law};
 use bk_side::name_law;
+use bk_volume::ReadError;
 use bk_world::{Header, Reply, RestoreRow, Rule};
 use std::thread::Threads;
 
@@ -54,21 +53,21 @@ fn path_of(disk: &Option<Text>) -> &str
 }
 
 // The log of a set that was opened. Changes nothing. `Broken` comes only where it isn't that of a set.
-fn read_log<D: Device>(
-    engine: &Engine,
-    dev: &mut D,
-    opened: &OpenedSet,
-) -> Result<Records, ExecuteError>
+fn read_log<D: Device>(engine: &Engine, dev: &mut D, opened: &OpenedSet) -> Result<Records, Trouble>
     ensures log { D.tells → (body : Body) → IsOf (contents ((D.disk dev.old).files opened.now.medium.name)) body opened.now.set → IfOk result (λ log. log ≡ body.log) }
-    ensures broken { D.tells → IsErrOf result Broken → (body : Body) → IsOf (contents ((D.disk dev.old).files opened.now.medium.name)) body opened.now.set → ⊥ }
+    ensures broken { D.tells → IsErrOf result Trouble.Broken → (body : Body) → IsOf (contents ((D.disk dev.old).files opened.now.medium.name)) body opened.now.set → ⊥ }
     ensures effect { D.tells → ChangesNothing (D.disk dev.old) (D.disk dev.new) }
-    ensures cause { HasCause D.disk_faults D.tell_faults dev.old dev.new (IsErrOf result Fault) }
+    ensures cause { HasCause D.disk_faults D.tell_faults dev.old dev.new (IsErrOf result Trouble.Fault) }
 {
     log_law();
-    let bytes = opened.medium.log_of(engine.alloc(), dev, &opened.set)?;
+    let bytes = match opened.medium.log_of(engine.alloc(), dev, &opened.set) {
+        Ok(bytes) => bytes,
+        Err(ReadError::Fault) => return Err(Trouble::Fault),
+        Err(ReadError::NoMemory) => return Err(Trouble::NoMemory),
+    };
     match Records::new(bytes) {
         Ok(log) => Ok(log),
-        Err(_) => Err(ExecuteError::Broken),
+        Err(_) => Err(Trouble::Broken),
     }
 }
 
@@ -82,7 +81,7 @@ fn bring_up<R: Threads + Sync, D: Device>(
     header: &Header,
     branch: Guid,
     last: Lsn,
-) -> Result<(), ExecuteError>
+) -> Result<(), Trouble>
     requires ready { IsReady engine.old }
     requires none { (own_in engine.old).staging ≡ None }
     requires medium { IsMediumFile opened.now.medium.name }
@@ -98,9 +97,9 @@ fn bring_up<R: Threads + Sync, D: Device>(
     ensures crash { D.tells → (w : World) (log : List ℕ) (acts : List Act) → StandsFor (D.disk dev.old) engine.old w → IsSetOn (D.disk dev.old).files opened.now.medium.name opened.now.set
         → AreOfRestore w (found_under header.now opened.now.set log) name.now branch last acts → Effect IsOurs (CutIn w acts) (D.disk dev.old) (D.disk dev.new) }
     ensures touches { D.tells → TouchesOnly NoMedium (D.disk dev.old) (D.disk dev.new) }
-    ensures broken { D.tells → IsErrOf result Broken → (w : World) (log : List ℕ) (acts : List Act) → StandsFor (D.disk dev.old) engine.old w → IsSetOn (D.disk dev.old).files opened.now.medium.name opened.now.set
+    ensures broken { D.tells → IsErrOf result Trouble.Broken → (w : World) (log : List ℕ) (acts : List Act) → StandsFor (D.disk dev.old) engine.old w → IsSetOn (D.disk dev.old).files opened.now.medium.name opened.now.set
         → AreOfRestore w (found_under header.now opened.now.set log) name.now branch last acts → ⊥ }
-    ensures cause { HasCause D.disk_faults D.tell_faults dev.old dev.new (IsErrOf result Fault) }
+    ensures cause { HasCause D.disk_faults D.tell_faults dev.old dev.new (IsErrOf result Trouble.Fault) }
 {
     name_law();
     engine.at_rest(dev);
@@ -115,8 +114,7 @@ fn bring_up<R: Threads + Sync, D: Device>(
         header,
         branch,
         last,
-    )?;
-    Ok(())
+    )
 }
 
 // So it is brought up, and behind that this row comes to restorehistory. A crash leaves what it may leave inside of all these acts.
@@ -130,7 +128,7 @@ fn bring_up_noted<R: Threads + Sync, D: Device>(
     branch: Guid,
     last: Lsn,
     row: RestoreRow,
-) -> Result<(), ExecuteError>
+) -> Result<(), Trouble>
     requires ready { IsReady engine.old }
     requires none { (own_in engine.old).staging ≡ None }
     requires medium { IsMediumFile opened.now.medium.name }
@@ -147,14 +145,13 @@ fn bring_up_noted<R: Threads + Sync, D: Device>(
     ensures crash { D.tells → (w : World) (log : List ℕ) (acts : List Act) → StandsFor (D.disk dev.old) engine.old w → IsSetOn (D.disk dev.old).files opened.now.medium.name opened.now.set
         → AreOfRestore w (found_under header.now opened.now.set log) name.now branch last acts → Effect IsOurs (CutIn w (acts ++ noted (history.Restore row) ∷ [])) (D.disk dev.old) (D.disk dev.new) }
     ensures touches { D.tells → TouchesOnly NoMedium (D.disk dev.old) (D.disk dev.new) }
-    ensures broken { D.tells → IsErrOf result Broken → (w : World) (log : List ℕ) (acts : List Act) → StandsFor (D.disk dev.old) engine.old w → IsSetOn (D.disk dev.old).files opened.now.medium.name opened.now.set
+    ensures broken { D.tells → IsErrOf result Trouble.Broken → (w : World) (log : List ℕ) (acts : List Act) → StandsFor (D.disk dev.old) engine.old w → IsSetOn (D.disk dev.old).files opened.now.medium.name opened.now.set
         → AreOfRestore w (found_under header.now opened.now.set log) name.now branch last acts → ⊥ }
-    ensures cause { HasCause D.disk_faults D.tell_faults dev.old dev.new (IsErrOf result Fault) }
+    ensures cause { HasCause D.disk_faults D.tell_faults dev.old dev.new (IsErrOf result Trouble.Fault) }
 {
     bring_up(engine, rt, dev, opened, name, header, branch, last)?;
     let row = HistoryRow::Restore(row);
-    engine.note(dev, &row)?;
-    Ok(())
+    engine.note(dev, &row)
 }
 
 // Restores by the set that was opened on the medium.
@@ -169,7 +166,7 @@ fn restore_set<R: Threads + Sync, D: Device>(
     options: &RestoreOptions,
     opened: &OpenedSet,
     now: u64,
-) -> Result<Reply, ExecuteError>
+) -> Result<Reply, Trouble>
     requires ready { IsReady engine.old }
     requires none { (own_in engine.old).staging ≡ None }
     requires built { request.is_built database.now units.now disk.now options.now ≡ true }
@@ -182,8 +179,8 @@ fn restore_set<R: Threads + Sync, D: Device>(
     ensures executed { IfOk result (λ reply. Executed D.tells engine.old (D.disk dev.old) (record { item = script.RestoreDatabase database.now units.now disk.now options.now; line = line }) now reply engine.new (D.disk dev.new)) }
     ensures failed { OnErr result (Failed D.tells engine.old (D.disk dev.old) (record { item = script.RestoreDatabase database.now units.now disk.now options.now; line = line }) now (D.disk dev.new)) }
     ensures touches { D.tells → TouchesOnly NoMedium (D.disk dev.old) (D.disk dev.new) }
-    ensures broken { D.tells → IsErrOf result Broken → (w : World) → StandsFor (D.disk dev.old) engine.old w → ⊥ }
-    ensures cause { HasCause D.disk_faults D.tell_faults dev.old dev.new (IsErrOf result Fault) }
+    ensures broken { D.tells → IsErrOf result Trouble.Broken → (w : World) → StandsFor (D.disk dev.old) engine.old w → ⊥ }
+    ensures cause { HasCause D.disk_faults D.tell_faults dev.old dev.new (IsErrOf result Trouble.Fault) }
 {
     statements_do_what_they_may();
     let log = read_log(engine, dev, opened)?;
@@ -219,7 +216,7 @@ fn refuse<D: Device>(
     options: &RestoreOptions,
     rule: Rule,
     now: u64,
-) -> Result<Reply, ExecuteError>
+) -> Result<Reply, Trouble>
     requires ready { IsReady engine.old }
     requires none { (own_in engine.old).staging ≡ None }
     requires built { request.is_built database.now units.now disk.now options.now ≡ true }
@@ -231,14 +228,14 @@ fn refuse<D: Device>(
     ensures executed { IfOk result (λ reply. Executed D.tells engine.old (D.disk dev.old) (record { item = script.RestoreDatabase database.now units.now disk.now options.now; line = line }) now reply engine.new (D.disk dev.new)) }
     ensures failed { OnErr result (Failed D.tells engine.old (D.disk dev.old) (record { item = script.RestoreDatabase database.now units.now disk.now options.now; line = line }) now (D.disk dev.new)) }
     ensures touches { D.tells → TouchesOnly NoMedium (D.disk dev.old) (D.disk dev.new) }
-    ensures broken { D.tells → IsErrOf result Broken → (w : World) → StandsFor (D.disk dev.old) engine.old w → ⊥ }
-    ensures cause { HasCause D.disk_faults D.tell_faults dev.old dev.new (IsErrOf result Fault) }
+    ensures broken { D.tells → IsErrOf result Trouble.Broken → (w : World) → StandsFor (D.disk dev.old) engine.old w → ⊥ }
+    ensures cause { HasCause D.disk_faults D.tell_faults dev.old dev.new (IsErrOf result Trouble.Fault) }
 {
     statements_do_what_they_may();
     let plan = plan_kept_restore(engine, line, database, units, disk, options, Err(rule), now)?;
     match plan {
         RestorePlan::Refused { rule } => follow(engine, dev, Plan::Refused { rule }),
-        RestorePlan::BringsUp { .. } => Err(ExecuteError::NoMemory),
+        RestorePlan::BringsUp { .. } => Err(Trouble::NoMemory),
     }
 }
 
@@ -253,7 +250,7 @@ pub(crate) fn restore<R: Threads + Sync, D: Device>(
     disk: &Option<Text>,
     options: &RestoreOptions,
     now: u64,
-) -> Result<Reply, ExecuteError>
+) -> Result<Reply, Trouble>
     requires ready { IsReady engine.old }
     requires none { (own_in engine.old).staging ≡ None }
     requires standing { D.tells → AreStanding (D.disk dev.old) engine.old.hosting.stores }
@@ -263,8 +260,8 @@ pub(crate) fn restore<R: Threads + Sync, D: Device>(
     ensures executed { IfOk result (λ reply. Executed D.tells engine.old (D.disk dev.old) (record { item = script.RestoreDatabase database.now units.now disk.now options.now; line = line }) now reply engine.new (D.disk dev.new)) }
     ensures failed { OnErr result (Failed D.tells engine.old (D.disk dev.old) (record { item = script.RestoreDatabase database.now units.now disk.now options.now; line = line }) now (D.disk dev.new)) }
     ensures touches { D.tells → TouchesOnly IsPath (D.disk dev.old) (D.disk dev.new) }
-    ensures broken { D.tells → IsErrOf result Broken → (w : World) → StandsFor (D.disk dev.old) engine.old w → ⊥ }
-    ensures cause { HasCause D.disk_faults D.tell_faults dev.old dev.new (IsErrOf result Fault) }
+    ensures broken { D.tells → IsErrOf result Trouble.Broken → (w : World) → StandsFor (D.disk dev.old) engine.old w → ⊥ }
+    ensures cause { HasCause D.disk_faults D.tell_faults dev.old dev.new (IsErrOf result Trouble.Fault) }
 {
     statements_do_what_they_may();
     if let Some(rule) = unbuilt_restore(line, database, units, disk, options) {

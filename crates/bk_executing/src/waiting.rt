@@ -1,15 +1,15 @@
 // `:wait`: a backup that ran beside the sessions ends.
-ghost use Rattle.std.specs.Prelude.{◌≡◌, ℕ, List, ◌++◌, Some, Ok, None, IfOk, IsErrOf, OnOk, OnErr};
+ghost use Rattle.std.specs.Prelude.{◌≡◌, ℕ, List, ◌++◌, Some, Ok, None, IfErr, IfOk, IsErrOf, OnOk, OnErr};
 ghost use Rattle.bk_archive.specs.Media.{KeepsMedia};
 ghost use Rattle.bk_device.specs.Calls.{ChangesNothing};
 ghost use Rattle.bk_device.specs.Counts.{HasCause};
 ghost use Rattle.bk_device.specs.Effects.{Effect};
+ghost use Rattle.bk_device.specs.Troubles.{IsPassing};
 ghost use Rattle.bk_engine.specs.Jobs.{CutsEnding, IsFinishing};
 ghost use Rattle.bk_engine.specs.Stands.{IsOurs, IsReady, NamesSet, StandsFor, own_in};
 ghost use Rattle.bk_engine.specs.Touched.{IsAt, IsPath, NoMedium, TouchesOnly};
 ghost use Rattle.bk_executing.specs.Executing.{Executed, Failed};
 ghost use Rattle.bk_executing.specs.Waiting.{Ended, MayEnd, basing_row, sealing_of, stamp_of};
-ghost use Rattle.bk_executing.specs.declared.error.ExecuteError.TheVariants.{Broken, Fault};
 ghost use Rattle.bk_header.specs.Conditions.{KeepsConditions};
 ghost use Rattle.bk_items.specs.declared.item.ScriptItem.TheVariants as script;
 ghost use Rattle.bk_machine.specs.Acts.{Act, done_all};
@@ -21,12 +21,11 @@ ghost use Rattle.bk_stores.specs.Standing.{AreStanding};
 ghost use Rattle.bk_volume.specs.Staging.{IsStaged};
 ghost use Rattle.bk_world.specs.Medium.{medium_at};
 
-use crate::error::ExecuteError;
 use crate::following::follow;
 use crate::planning::{job_path, plan_kept_wait};
 use bk_archive::room_at;
 use bk_carried::job_headers_are_of_databases;
-use bk_device::Device;
+use bk_device::{Device, Trouble};
 use bk_engine::{Engine, Finishing};
 use bk_ids::Name;
 use bk_kept::copy_transactions;
@@ -40,25 +39,25 @@ use bk_world::{BackupRow, Header, Reply};
 use std::alloc::Global;
 
 // How many sets are on the medium at a path, which has room for one more. Where it hasn't, or there is none, the call ends as if memory were wanting.
-fn sets_at<D: Device>(alloc: Global, dev: &mut D, path: &str) -> Result<u64, ExecuteError>
+fn sets_at<D: Device>(alloc: Global, dev: &mut D, path: &str) -> Result<u64, Trouble>
     ensures sets { D.tells → (w : World) → KeepsMedia w None (D.disk dev.old).files → IfOk result (λ sets. ShowsRoom (medium_at w.media path.now) (Ok (Some sets))) }
     ensures effect { D.tells → ChangesNothing (D.disk dev.old) (D.disk dev.new) }
-    ensures sound { IsErrOf result Broken → ⊥ }
-    ensures cause { HasCause D.disk_faults D.tell_faults dev.old dev.new (IsErrOf result Fault) }
+    ensures trouble { IfErr result IsPassing }
+    ensures cause { HasCause D.disk_faults D.tell_faults dev.old dev.new (IsErrOf result Trouble.Fault) }
 {
     match room_at(alloc, dev, path)? {
         Ok(Some(sets)) => Ok(sets),
-        _ => Err(ExecuteError::NoMemory),
+        _ => Err(Trouble::NoMemory),
     }
 }
 
 // How many sets are on the medium of the current database's backup, 0 where none runs.
-fn count_sets<D: Device>(engine: &Engine, dev: &mut D) -> Result<u64, ExecuteError>
+fn count_sets<D: Device>(engine: &Engine, dev: &mut D) -> Result<u64, Trouble>
     requires ready { IsReady engine.now }
     ensures sets { D.tells → (w : World) → StandsFor (D.disk dev.old) engine.now w → IfOk result (HasSets w) }
     ensures effect { D.tells → ChangesNothing (D.disk dev.old) (D.disk dev.new) }
-    ensures sound { IsErrOf result Broken → ⊥ }
-    ensures cause { HasCause D.disk_faults D.tell_faults dev.old dev.new (IsErrOf result Fault) }
+    ensures trouble { IfErr result IsPassing }
+    ensures cause { HasCause D.disk_faults D.tell_faults dev.old dev.new (IsErrOf result Trouble.Fault) }
 {
     match job_path(engine)? {
         Some(path) => sets_at(engine.alloc(), dev, path.as_str()),
@@ -71,7 +70,7 @@ fn say_stamp<D: Device>(
     engine: &mut Engine,
     dev: &mut D,
     finish: &Finish,
-) -> Result<Finishing, ExecuteError>
+) -> Result<Finishing, Trouble>
     requires ready { IsReady engine.old }
     requires none { (own_in engine.old).staging ≡ None }
     requires keeps { KeepsFinish finish.now }
@@ -84,8 +83,8 @@ fn say_stamp<D: Device>(
     ensures ended { D.tells → (w : World) (may : MayEnd w finish.now) → StandsFor (D.disk dev.old) engine.old w → IfOk result (λ f. Ended w finish.now may (D.disk dev.new) engine.new f) }
     ensures crash { D.tells → (w : World) → StandsFor (D.disk dev.old) engine.old w → MayEnd w finish.now → Effect IsOurs (CutsEnding w finish.now.name (stamp_of finish.now) finish.now.transactions) (D.disk dev.old) (D.disk dev.new) }
     ensures touches { D.tells → TouchesOnly NoMedium (D.disk dev.old) (D.disk dev.new) }
-    ensures sound { IsErrOf result Broken → ⊥ }
-    ensures cause { HasCause D.disk_faults D.tell_faults dev.old dev.new (IsErrOf result Fault) }
+    ensures trouble { IfErr result IsPassing }
+    ensures cause { HasCause D.disk_faults D.tell_faults dev.old dev.new (IsErrOf result Trouble.Fault) }
 {
     engine.at_rest(dev);
     let transactions = copy_transactions(engine.alloc(), finish.transactions.as_slice())?;
@@ -103,7 +102,7 @@ fn seal_finished<D: Device>(
     engine: &mut Engine,
     dev: &mut D,
     finish: &Finish,
-) -> Result<(), ExecuteError>
+) -> Result<(), Trouble>
     requires ready { IsReady engine.old }
     requires none { (own_in engine.old).staging ≡ None }
     requires keeps { KeepsFinish finish.now }
@@ -114,12 +113,11 @@ fn seal_finished<D: Device>(
     ensures does { D.tells → (w : World) → StandsFor (D.disk dev.old) engine.old w → MayEnd w finish.now → OnOk result (StandsFor (D.disk dev.new) engine.new (done_all w (sealing_of finish.now))) }
     ensures crash { D.tells → (w : World) → StandsFor (D.disk dev.old) engine.old w → MayEnd w finish.now → Effect IsOurs (CutIn w (sealing_of finish.now)) (D.disk dev.old) (D.disk dev.new) }
     ensures touches { D.tells → TouchesOnly (IsAt finish.now.path) (D.disk dev.old) (D.disk dev.new) }
-    ensures sound { IsErrOf result Broken → ⊥ }
-    ensures cause { HasCause D.disk_faults D.tell_faults dev.old dev.new (IsErrOf result Fault) }
+    ensures trouble { IfErr result IsPassing }
+    ensures cause { HasCause D.disk_faults D.tell_faults dev.old dev.new (IsErrOf result Trouble.Fault) }
 {
     let finishing = say_stamp(engine, dev, finish)?;
-    seal_finishing(engine, dev, &finish.path, &finish.header, finishing)?;
-    Ok(())
+    seal_finishing(engine, dev, &finish.path, &finish.header, finishing)
 }
 
 // The row of the set comes to backupset, and the database of this name is based on the set. A crash leaves what it may leave inside of these acts.
@@ -129,7 +127,7 @@ fn base_finished<D: Device>(
     name: &Name,
     row: BackupRow,
     base: &Header,
-) -> Result<(), ExecuteError>
+) -> Result<(), Trouble>
     requires ready { IsReady engine.old }
     requires none { (own_in engine.old).staging ≡ None }
     requires keeps { KeepsConditions row.header }
@@ -140,21 +138,16 @@ fn base_finished<D: Device>(
     ensures does { D.tells → (w : World) → StandsFor (D.disk dev.old) engine.old w → OnOk result (StandsFor (D.disk dev.new) engine.new (done_all w (basing_row name.now row base.now))) }
     ensures crash { D.tells → (w : World) → StandsFor (D.disk dev.old) engine.old w → Effect IsOurs (CutIn w (basing_row name.now row base.now)) (D.disk dev.old) (D.disk dev.new) }
     ensures touches { D.tells → TouchesOnly NoMedium (D.disk dev.old) (D.disk dev.new) }
-    ensures sound { IsErrOf result Broken → ⊥ }
-    ensures cause { HasCause D.disk_faults D.tell_faults dev.old dev.new (IsErrOf result Fault) }
+    ensures trouble { IfErr result IsPassing }
+    ensures cause { HasCause D.disk_faults D.tell_faults dev.old dev.new (IsErrOf result Trouble.Fault) }
 {
     let row = HistoryRow::Backup(row);
     engine.note(dev, &row)?;
-    engine.base(dev, name.as_str(), base)?;
-    Ok(())
+    engine.base(dev, name.as_str(), base)
 }
 
 // The backup ends, and its reply is given. A crash leaves what it may leave inside of its acts.
-fn end_backup<D: Device>(
-    engine: &mut Engine,
-    dev: &mut D,
-    finish: Finish,
-) -> Result<Reply, ExecuteError>
+fn end_backup<D: Device>(engine: &mut Engine, dev: &mut D, finish: Finish) -> Result<Reply, Trouble>
     requires ready { IsReady engine.old }
     requires none { (own_in engine.old).staging ≡ None }
     requires keeps { KeepsFinish finish }
@@ -166,8 +159,8 @@ fn end_backup<D: Device>(
     ensures does { D.tells → (w : World) (now sets : ℕ) (acts : List Act) → StandsFor (D.disk dev.old) engine.old w → AreFinishing w now sets finish acts → OnOk result (StandsFor (D.disk dev.new) engine.new (done_all w acts)) }
     ensures crash { D.tells → (w : World) (now sets : ℕ) (acts : List Act) → StandsFor (D.disk dev.old) engine.old w → AreFinishing w now sets finish acts → Effect IsOurs (CutIn w acts) (D.disk dev.old) (D.disk dev.new) }
     ensures touches { D.tells → TouchesOnly (IsAt finish.path) (D.disk dev.old) (D.disk dev.new) }
-    ensures sound { IsErrOf result Broken → ⊥ }
-    ensures cause { HasCause D.disk_faults D.tell_faults dev.old dev.new (IsErrOf result Fault) }
+    ensures sound { IsErrOf result Trouble.Broken → ⊥ }
+    ensures cause { HasCause D.disk_faults D.tell_faults dev.old dev.new (IsErrOf result Trouble.Fault) }
 {
     acts_keep_worlds_sound();
     job_headers_are_of_databases();
@@ -179,11 +172,7 @@ fn end_backup<D: Device>(
 }
 
 /// `:wait` on any line.
-pub(crate) fn wait<D: Device>(
-    engine: &mut Engine,
-    dev: &mut D,
-    now: u64,
-) -> Result<Reply, ExecuteError>
+pub(crate) fn wait<D: Device>(engine: &mut Engine, dev: &mut D, now: u64) -> Result<Reply, Trouble>
     requires ready { IsReady engine.old }
     requires none { (own_in engine.old).staging ≡ None }
     requires standing { D.tells → AreStanding (D.disk dev.old) engine.old.hosting.stores }
@@ -193,8 +182,8 @@ pub(crate) fn wait<D: Device>(
     ensures executed { (line : ℕ) → IfOk result (λ reply. Executed D.tells engine.old (D.disk dev.old) (record { item = script.Wait; line = line }) now reply engine.new (D.disk dev.new)) }
     ensures failed { (line : ℕ) → OnErr result (Failed D.tells engine.old (D.disk dev.old) (record { item = script.Wait; line = line }) now (D.disk dev.new)) }
     ensures touches { D.tells → TouchesOnly IsPath (D.disk dev.old) (D.disk dev.new) }
-    ensures sound { IsErrOf result Broken → ⊥ }
-    ensures cause { HasCause D.disk_faults D.tell_faults dev.old dev.new (IsErrOf result Fault) }
+    ensures sound { IsErrOf result Trouble.Broken → ⊥ }
+    ensures cause { HasCause D.disk_faults D.tell_faults dev.old dev.new (IsErrOf result Trouble.Fault) }
 {
     statements_do_what_they_may();
     let sets = count_sets(engine, dev)?;

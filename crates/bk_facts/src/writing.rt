@@ -16,8 +16,7 @@ fn append_file(out: &mut Vec<u8>, file: &DataFile) -> Result<(), AllocError>
 {
     append_u32(out, file.pages)?;
     let path = file.path.as_str();
-    append_text(out, path.as_bytes())?;
-    Ok(())
+    append_text(out, path.as_bytes())
 }
 
 fn append_files(out: &mut Vec<u8>, files: &[DataFile]) -> Result<(), AllocError>

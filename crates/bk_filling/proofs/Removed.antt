@@ -52,9 +52,6 @@ pub record RemovedSome (names : List (List ℕ)) (i : ℕ) (a b : Disk) : Type 0
   pub gone : AreGone (IsAmong names i) b
   pub effect : Effect (IsData names) (λ _. Unit {0}) a b
 
-pub removed_none : (names : List (List ℕ)) (a : Disk) → RemovedSome names 0 a a
-removed_none names a = record { gone = λ name among. absurd (omega (arith, among.1)); effect = effect_none a (λ image mine. tt) }
-
 pub removing_effect : {P : Files → Type 0} {names : List (List ℕ)} {i : ℕ} {a b : Disk} (name : List ℕ) (c : Disk) → RemovedSome names i a b → slice_get names i ≡ Some name → Effect (IsName name) P b c → Effect (IsData names) (λ _. Unit {0}) a c
 removing_effect {i = i} name c is here effect = effect_then is.effect (effect_widen (λ other at. (suc i, here ∙ ap Some (sym at))) (λ image was left. tt) effect)
 

@@ -92,9 +92,6 @@ begun_fills files disk gone = record {
   later = λ i d high at. ap (λ (o : Option (List ℕ)). length (contents o)) (gone (data_file d.path) (is_data files i d at)).0;
 }
 
-pub begun_shows : (files : List DataFile) (image : Files) (given : ℕ × ℕ → List ℕ) → Shows image (begun files) given
-begun_shows files image given = record { whole = λ i d number low at inside. absurd (omega (arith, low)); begun = λ d number at inside. absurd (omega (arith, inside)) }
-
 -- what is done under other names leaves them
 pub filling_kept : (f : Kept) (a b : Disk) → KeepsFiles (IsData (names_of f.files)) a b → IsFilling a f → IsFilling b f
 filling_kept f a b keeps is = record {

@@ -1,5 +1,6 @@
+pub mod Errors
 pub mod Filling
+pub mod Laws
 pub mod Records
 pub mod Removing
-pub mod Errors
-pub mod Laws
+pub mod Troubles

@@ -1,9 +1,10 @@
 // Why a call on files that are filled gave nothing.
 ghost use Rattle.std.specs.Prelude.{◌≡◌};
 ghost use Rattle.bk_filling.specs.Errors.{FromLog};
+ghost use Rattle.bk_filling.specs.Troubles.{FromFill};
 ghost use Rattle.bk_filling.specs.declared.error.FillError.TheVariants.{Fault, NoMemory};
 
-use bk_device::Failed;
+use bk_device::{Failed, Trouble};
 use bk_segments::LogError;
 use std::alloc::{AllocError, AllocFailed};
 use thiserror::Error;
@@ -50,6 +51,17 @@ impl From<LogError> for FillError {
         match error {
             LogError::Foreign | LogError::NoMemory => FillError::NoMemory,
             LogError::Fault => FillError::Fault,
+        }
+    }
+}
+
+impl From<FillError> for Trouble {
+    ghost from_gives = { FromFill };
+
+    fn from(error: FillError) -> Self {
+        match error {
+            FillError::Fault => Trouble::Fault,
+            FillError::NoMemory => Trouble::NoMemory,
         }
     }
 }

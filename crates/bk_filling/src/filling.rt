@@ -32,8 +32,7 @@ fn file_names(alloc: Global, files: &[DataFile]) -> Result<Vec<Text>, AllocError
     ensures { IfOk result (λ names. names.items ≡ names_of files.now) }
 {
     let paths = file_paths(alloc, files)?;
-    let names = data_files(alloc, &paths)?;
-    Ok(names)
+    data_files(alloc, &paths)
 }
 
 // Writes a page at the end of a file, which has so many pages.
@@ -58,8 +57,7 @@ fn append_last<D: Device>(dev: &mut D, name: &str, number: u32, bytes: &Page) ->
     ensures cause { HasCause D.disk_faults D.tell_faults dev.old dev.new (IsErr result) }
 {
     append_page(dev, name, number, bytes)?;
-    dev.sync(name)?;
-    Ok(())
+    dev.sync(name)
 }
 
 /// Data files that are filled: their pages come in the order of file and number, from page 0 of the first file on.
@@ -191,10 +189,8 @@ impl Filling {
     {
         let pages = self.pages();
         if self.page + 1 < pages {
-            self.put(dev, bytes)?;
-            return Ok(());
+            return self.put(dev, bytes);
         }
-        self.put_last(dev, bytes)?;
-        Ok(())
+        self.put_last(dev, bytes)
     }
 }

@@ -104,11 +104,10 @@ impl Records {
         ensures crash { D.tells → Effect (IsOwn self.old.db) (λ _. Unit {0}) (D.disk dev.old) (D.disk dev.new) }
         ensures cause { HasCause D.disk_faults D.tell_faults dev.old dev.new (IsErrOf result FillError.Fault) }
     {
-        if self.is_full() {
-            self.grow(alloc, dev)?;
+        if !self.is_full() {
             return Ok(());
         }
-        Ok(())
+        self.grow(alloc, dev)
     }
 
     // Adds a blob to the last segment.
@@ -147,8 +146,7 @@ impl Records {
         ensures cause { HasCause D.disk_faults D.tell_faults dev.old dev.new (IsErrOf result FillError.Fault) }
     {
         self.make_room(alloc, dev)?;
-        self.add(dev, bytes)?;
-        Ok(())
+        self.add(dev, bytes)
     }
 
     /// Puts the control record, with these bytes, at most 32,768, as the note: then the files are a log, and what counts of it is durable.

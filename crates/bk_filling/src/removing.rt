@@ -90,8 +90,7 @@ fn remove_recorded<D: Device>(alloc: Global, dev: &mut D, db: u32) -> Result<(),
     let Some(head) = find_head(alloc, dev, db)? else {
         return Ok(());
     };
-    remove_segments(alloc, dev, db, head.gone, head.back + 2)?;
-    Ok(())
+    remove_segments(alloc, dev, db, head.gone, head.back + 2)
 }
 
 // Removes what is there of a log: the segments that its control record names, and then its control file.
@@ -108,9 +107,9 @@ fn remove_log<D: Device>(alloc: Global, dev: &mut D, db: u32) -> Result<(), Fill
     Ok(())
 }
 
-/// Removes what is there of a database: the data files at these paths, the side file, the segments that the log's control record names, one that was begun behind them, and then the control file. Any
-/// of them may be absent. Afterwards none of these names is there, nor does one come back at a crash; segments that no control record names stay. A crash leaves anything of the database's own files,
-/// and the call may be repeated.
+/// Removes what is there of a database, durably: the data files at these paths, the side file, the segments that the log's control
+/// record names, one that was begun behind them, and then the control file. Segments that no control record names stay. A crash
+/// leaves anything of the database's own files, and the call may be repeated.
 pub fn remove_parts<D: Device>(
     alloc: Global,
     dev: &mut D,
@@ -125,6 +124,5 @@ pub fn remove_parts<D: Device>(
     ensures cause { HasCause D.disk_faults D.tell_faults dev.old dev.new (IsErrOf result FillError.Fault) }
 {
     remove_log(alloc, dev, db)?;
-    remove_pages(alloc, dev, db, paths)?;
-    Ok(())
+    remove_pages(alloc, dev, db, paths)
 }

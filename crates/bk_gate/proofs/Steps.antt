@@ -1,6 +1,6 @@
 -- What the steps of sealing a blob did to the device.
 use Rattle.std.proofs.Common.{◌≡◌, ◌≤◌, ◌<◌, ◌^◌, ◌⊎◌, ℕ, ◌+◌, List, [], ◌∷◌, ◌++◌, length, max, take, get_or, Option, Some, None, Bool, true, false, refl, inl, inr, sym, ◌∙◌, ap, subst, arith, lit<}
-use Rattle.std.specs.Prelude.{slice_index, option_map, IsSomeAnd}
+use Rattle.std.specs.Prelude.{slice_index, option_map, IsSomeAnd, Result, Ok, Err, OnOk}
 use Rattle.std.proofs.lemmas.List.{take-take}
 use Rattle.std.proofs.lemmas.Grind.{common_steps}
 use Rattle.bk_device.specs.Calls.{contents, read_at, written, LeavesWrite, LeavesCut, LeavesSame, CallsOn, ChangesNothing}
@@ -15,6 +15,15 @@ use Rattle.bk_gate.specs.Blobs.{magic, sealed, blobs_in}
 use Rattle.bk_gate.specs.Gate.{Stands, Quiet, Loose, IsAt, IsPrepared}
 use Rattle.bk_gate.specs.Laws.{quiet_front}
 use Rattle.bk_gate.specs.BlobLaws.{front_stands, behind, mending, mended_sealed, longer, same_front_byte, byte_written, opened_sealed, opened_stands, shut_sealed, short_blob, ended_spans, no_blobs, erasing, erased}
+
+-- what holds whatever a call answers, and what follows from two facts of one that succeeded
+pub on_ok_any : {T E P : Type 0} (r : Result T E) → P → OnOk r P
+on_ok_any (Ok x) p = p
+on_ok_any (Err e) p = tt
+
+pub on_ok_both : {T E P Q R : Type 0} (r : Result T E) → (P → Q → R) → OnOk r P → OnOk r Q → OnOk r R
+on_ok_both (Ok x) f p q = f p q
+on_ok_both (Err e) f p q = tt
 
 -- one call, and what it failed by
 pub only_cause : {D : Type 0} {disk tell : D → ℕ} {a b : D} {failed call : Type 0} → HasCause disk tell a b call → (failed → call) → HasCause disk tell a b failed

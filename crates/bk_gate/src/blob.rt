@@ -19,10 +19,10 @@ pub fn close<D: Device>(dev: &mut D, name: &str, end: u64, is_closed: bool) -> R
     ensures crash { D.tells → Effect (IsName name.now) (λ image. sealed (image name.now) ≡ sealed ((D.disk dev.old).files name.now)) (D.disk dev.old) (D.disk dev.new) }
     ensures cause { HasCause D.disk_faults D.tell_faults dev.old dev.new (IsErr result) }
 {
-    if !is_closed {
-        write_durably(dev, name, end, &[0])?;
+    if is_closed {
+        return Ok(());
     }
-    Ok(())
+    write_durably(dev, name, end, &[0])
 }
 
 // Writes bytes behind the closed gate byte at the end. They aren't durable yet.
@@ -43,8 +43,7 @@ pub fn append<D: Device>(
     ensures crash { D.tells → Effect (IsName name.now) (λ image. sealed (image name.now) ≡ sealed ((D.disk dev.old).files name.now)) (D.disk dev.old) (D.disk dev.new) }
     ensures cause { HasCause D.disk_faults D.tell_faults dev.old dev.new (IsErr result) }
 {
-    dev.write(name, at, bytes)?;
-    Ok(())
+    dev.write(name, at, bytes)
 }
 
 pub fn read_number(bytes: &[u8]) -> u64
@@ -72,8 +71,7 @@ fn settle<D: Device>(dev: &mut D, name: &str, end: u64) -> Result<(), Failed>
     ensures crash { D.tells → Effect (IsName name.now) (λ image. sealed (image name.now) ≡ sealed ((D.disk dev.old).files name.now)) (D.disk dev.old) (D.disk dev.new) }
     ensures cause { HasCause D.disk_faults D.tell_faults dev.old dev.new (IsErr result) }
 {
-    dev.sync(name)?;
-    Ok(())
+    dev.sync(name)
 }
 
 // Writes a length behind the closed gate byte at the end. What stands behind it stays.
@@ -89,8 +87,7 @@ fn lay_length<D: Device>(dev: &mut D, name: &str, end: u64, size: u64) -> Result
     ensures crash { D.tells → Effect (IsName name.now) (λ image. sealed (image name.now) ≡ sealed ((D.disk dev.old).files name.now)) (D.disk dev.old) (D.disk dev.new) }
     ensures cause { HasCause D.disk_faults D.tell_faults dev.old dev.new (IsErr result) }
 {
-    append(dev, name, end, end.saturating_add(1), &spelled(size))?;
-    Ok(())
+    append(dev, name, end, end.saturating_add(1), &spelled(size))
 }
 
 // Writes the length of the blob behind the end, and a closed gate byte behind the blob, durably.
@@ -114,8 +111,7 @@ fn finish<D: Device>(dev: &mut D, name: &str, end: u64, len: u64) -> Result<(), 
         end.saturating_add(9).saturating_add(len),
         &[0],
     )?;
-    settle(dev, name, end)?;
-    Ok(())
+    settle(dev, name, end)
 }
 
 // Puts bytes behind the first eight.
@@ -181,8 +177,7 @@ fn lay_short<D: Device>(dev: &mut D, name: &str, end: u64, bytes: &[u8]) -> Resu
         end.saturating_add(1),
         &room[..laid_len(end, bytes.len())],
     )?;
-    settle(dev, name, end)?;
-    Ok(())
+    settle(dev, name, end)
 }
 
 // Writes a blob of any length there, in three writes.
@@ -200,8 +195,7 @@ fn lay_long<D: Device>(dev: &mut D, name: &str, end: u64, bytes: &[u8]) -> Resul
     lay_length(dev, name, end, len)?;
     append(dev, name, end, end + 9, bytes)?;
     append(dev, name, end, end + 9 + len, &[0])?;
-    settle(dev, name, end)?;
-    Ok(())
+    settle(dev, name, end)
 }
 
 // Writes a blob behind the closed gate byte at the end, with its length and a closed gate byte, durably.
@@ -266,8 +260,7 @@ fn make_room<D: Device>(
         return Ok(());
     }
     close(dev, name, end, is_closed)?;
-    lay_length(dev, name, end, 0)?;
-    Ok(())
+    lay_length(dev, name, end, 0)
 }
 
 // Adds bytes to a blob, of which so many are added already.
@@ -296,8 +289,7 @@ pub fn add_blob<D: Device>(
         end,
         end.saturating_add(9).saturating_add(len),
         bytes,
-    )?;
-    Ok(())
+    )
 }
 
 // Seals a blob, of which so many bytes are added, and says where the next gate byte is: a crash leaves the blobs that there were,
@@ -319,8 +311,7 @@ pub fn seal_blob<D: Device>(
     ensures cause { HasCause D.disk_faults D.tell_faults dev.old dev.new (IsErr result) }
 {
     if len == 0 {
-        let next = append_blob(dev, name, end, is_closed, &[])?;
-        return Ok(next);
+        return append_blob(dev, name, end, is_closed, &[]);
     }
     finish(dev, name, end, len)?;
     write_durably(dev, name, end, &[1])?;
@@ -337,8 +328,7 @@ fn trim<D: Device>(dev: &mut D, name: &str, end: u64) -> Result<(), Failed>
     ensures cause { HasCause D.disk_faults D.tell_faults dev.old dev.new (IsErr result) }
 {
     cut_behind(dev, name, end)?;
-    settle(dev, name, end)?;
-    Ok(())
+    settle(dev, name, end)
 }
 
 fn cut_behind<D: Device>(dev: &mut D, name: &str, end: u64) -> Result<(), Failed>
@@ -348,10 +338,10 @@ fn cut_behind<D: Device>(dev: &mut D, name: &str, end: u64) -> Result<(), Failed
     ensures crash { D.tells → Effect (IsName name.now) (λ image. sealed (image name.now) ≡ sealed ((D.disk dev.old).files name.now)) (D.disk dev.old) (D.disk dev.new) }
     ensures cause { HasCause D.disk_faults D.tell_faults dev.old dev.new (IsErr result) }
 {
-    if end < u64::MAX {
-        dev.cut(name, end + 1)?;
+    if end == u64::MAX {
+        return Ok(());
     }
-    Ok(())
+    dev.cut(name, end + 1)
 }
 
 // Cuts what stands behind the gate byte at the end, where it is closed.
@@ -367,10 +357,10 @@ pub fn leave_closed<D: Device>(
     ensures crash { D.tells → Effect (IsName name.now) (λ image. sealed (image name.now) ≡ sealed ((D.disk dev.old).files name.now)) (D.disk dev.old) (D.disk dev.new) }
     ensures cause { HasCause D.disk_faults D.tell_faults dev.old dev.new (IsErr result) }
 {
-    if is_closed {
-        trim(dev, name, end)?;
+    if !is_closed {
+        return Ok(());
     }
-    Ok(())
+    trim(dev, name, end)
 }
 
 const HEADER: [u8; 17] = *b"SQLBAKGATE000001\0";
@@ -383,8 +373,7 @@ pub fn start<D: Device>(dev: &mut D, name: &str) -> Result<(), Failed>
     ensures cause { HasCause D.disk_faults D.tell_faults dev.old dev.new (IsErr result) }
 {
     remove_durably(dev, name)?;
-    write_durably(dev, name, 0, &HEADER)?;
-    Ok(())
+    write_durably(dev, name, 0, &HEADER)
 }
 
 // Closes the first gate byte of a file with blobs: a crash leaves them all, or none.
@@ -396,8 +385,7 @@ fn erase<D: Device>(dev: &mut D, name: &str, end: u64) -> Result<(), Failed>
     ensures cause { HasCause D.disk_faults D.tell_faults dev.old dev.new (IsErr result) }
 {
     settle(dev, name, end)?;
-    write_durably(dev, name, 16, &[0])?;
-    Ok(())
+    write_durably(dev, name, 16, &[0])
 }
 
 fn erase_blobs<D: Device>(dev: &mut D, name: &str, end: u64, has_blobs: bool) -> Result<(), Failed>
@@ -407,10 +395,10 @@ fn erase_blobs<D: Device>(dev: &mut D, name: &str, end: u64, has_blobs: bool) ->
     ensures crash { D.tells → Effect (IsName name.now) (λ image. (sealed (image name.now) ≡ sealed ((D.disk dev.old).files name.now)) ⊎ (sealed (image name.now) ≡ [])) (D.disk dev.old) (D.disk dev.new) }
     ensures cause { HasCause D.disk_faults D.tell_faults dev.old dev.new (IsErr result) }
 {
-    if has_blobs {
-        erase(dev, name, end)?;
+    if !has_blobs {
+        return Ok(());
     }
-    Ok(())
+    erase(dev, name, end)
 }
 
 // Empties a gate file: a crash leaves all blobs, or none.
@@ -430,6 +418,5 @@ pub fn empty<D: Device>(
 {
     close(dev, name, end, is_closed)?;
     erase_blobs(dev, name, end, has_blobs)?;
-    trim(dev, name, 16)?;
-    Ok(())
+    trim(dev, name, 16)
 }

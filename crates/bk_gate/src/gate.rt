@@ -152,8 +152,7 @@ impl Gate {
         ensures cause { HasCause D.disk_faults D.tell_faults dev.old dev.new (IsErrOf result GateError.Fault) }
     {
         let (at, len) = self.span(i);
-        let bytes = read_span(alloc, dev, self.name(), at, len)?;
-        Ok(bytes)
+        read_span(alloc, dev, self.name(), at, len)
     }
 
     /// Begins a blob, where none is begun.

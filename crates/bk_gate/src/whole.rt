@@ -20,8 +20,7 @@ pub fn read_file<D: Device>(alloc: Global, dev: &mut D, name: &str) -> Result<Ve
     ensures cause { HasCause D.disk_faults D.tell_faults dev.old dev.new (IsErrOf result GateError.Fault) }
 {
     let len = check(dev, name)?;
-    let file = read_span(alloc, dev, name, 0, len)?;
-    Ok(file)
+    read_span(alloc, dev, name, 0, len)
 }
 
 // The length of the blob behind this gate byte.

@@ -20,8 +20,7 @@ fn append_name(out: &mut Vec<u8>, name: &Name) -> Result<(), AllocError>
     ensures fits { OnOk result (IsString 1 64 name.now) }
 {
     let text = name.as_str();
-    append_text(out, text.as_bytes())?;
-    Ok(())
+    append_text(out, text.as_bytes())
 }
 
 fn append_string(
@@ -37,8 +36,7 @@ fn append_string(
     ensures fits { OnOk result (IsString least most text.now) }
 {
     let text = text.as_str();
-    append_text(out, text.as_bytes())?;
-    Ok(())
+    append_text(out, text.as_bytes())
 }
 
 fn kind(kind: SetKind) -> u8
@@ -76,14 +74,13 @@ fn append_base(out: &mut Vec<u8>, base: Option<Base>) -> Result<(), AllocError>
     match base {
         Some(base) => {
             append_guid(out, base.set)?;
-            append_u64(out, base.lsn)?;
+            append_u64(out, base.lsn)
         }
         None => {
             append_guid(out, Guid { high: 0, low: 0 })?;
-            append_u64(out, 0)?;
+            append_u64(out, 0)
         }
     }
-    Ok(())
 }
 
 fn append_what(out: &mut Vec<u8>, h: &Header) -> Result<(), AllocError>
@@ -92,8 +89,7 @@ fn append_what(out: &mut Vec<u8>, h: &Header) -> Result<(), AllocError>
     append_u16(out, h.version)?;
     append_u8(out, kind(h.kind))?;
     append_model(out, h.model)?;
-    append_u8(out, flags(h))?;
-    Ok(())
+    append_u8(out, flags(h))
 }
 
 fn append_ids(out: &mut Vec<u8>, set: Guid, family: Guid) -> Result<(), AllocError>
@@ -101,8 +97,7 @@ fn append_ids(out: &mut Vec<u8>, set: Guid, family: Guid) -> Result<(), AllocErr
     ensures fits { OnOk result (IsGuid set × IsGuid family) }
 {
     append_guid(out, set)?;
-    append_guid(out, family)?;
-    Ok(())
+    append_guid(out, family)
 }
 
 fn append_range(out: &mut Vec<u8>, h: &Header) -> Result<(), AllocError>
@@ -115,8 +110,7 @@ fn append_range(out: &mut Vec<u8>, h: &Header) -> Result<(), AllocError>
     append_u64(out, h.first)?;
     append_u64(out, h.checkpoint)?;
     append_u64(out, h.last)?;
-    append_u64(out, h.database_backup)?;
-    Ok(())
+    append_u64(out, h.database_backup)
 }
 
 fn append_times(out: &mut Vec<u8>, h: &Header) -> Result<(), AllocError>
@@ -124,8 +118,7 @@ fn append_times(out: &mut Vec<u8>, h: &Header) -> Result<(), AllocError>
 {
     append_u64(out, h.start)?;
     append_u64(out, h.finish)?;
-    append_u64(out, h.expiry.unwrap_or(0))?;
-    Ok(())
+    append_u64(out, h.expiry.unwrap_or(0))
 }
 
 fn append_fixed(out: &mut Vec<u8>, h: &Header) -> Result<(), AllocError>
@@ -136,8 +129,7 @@ fn append_fixed(out: &mut Vec<u8>, h: &Header) -> Result<(), AllocError>
     append_ids(out, h.set, h.family)?;
     append_range(out, h)?;
     append_base(out, h.base)?;
-    append_times(out, h)?;
-    Ok(())
+    append_times(out, h)
 }
 
 fn append_branch(out: &mut Vec<u8>, branch: Branch) -> Result<(), AllocError>
@@ -145,8 +137,7 @@ fn append_branch(out: &mut Vec<u8>, branch: Branch) -> Result<(), AllocError>
     ensures fits { OnOk result (IsGuid branch.guid) }
 {
     append_guid(out, branch.guid)?;
-    append_u64(out, branch.start)?;
-    Ok(())
+    append_u64(out, branch.start)
 }
 
 fn append_path(out: &mut Vec<u8>, path: &[Branch]) -> Result<(), AllocError>
@@ -183,8 +174,7 @@ fn append_file(out: &mut Vec<u8>, file: &HeaderFile) -> Result<(), AllocError>
     append_u32(out, file.spec.extents)?;
     append_u8(out, worth(file.in_set, 1))?;
     append_name(out, &file.spec.name)?;
-    append_string(out, &file.spec.path, 1, 100)?;
-    Ok(())
+    append_string(out, &file.spec.path, 1, 100)
 }
 
 fn append_files(out: &mut Vec<u8>, files: &[HeaderFile]) -> Result<(), AllocError>
@@ -211,8 +201,7 @@ fn append_lists(out: &mut Vec<u8>, h: &Header) -> Result<(), AllocError>
     append_groups(out, h.groups.as_slice())?;
     append_files(out, h.files.as_slice())?;
     append_name(out, &h.log_name)?;
-    append_string(out, &h.log_path, 1, 100)?;
-    Ok(())
+    append_string(out, &h.log_path, 1, 100)
 }
 
 /// Appends the spelling of a header. Where there is no memory, `out` stays as it was.

@@ -19,8 +19,8 @@ use bk_machine::{
     what_is_said_comes_last,
 };
 
-/// An act of a sound world does to its hosted databases what it does to the world: what one says comes behind its records, also where that is a front of what it may say, a checkpoint once it is noted as the next one. That by itself changes
-/// nothing, nor does taking in what was noted; one is based on a set; a backup of one runs or doesn't any more; one comes or goes. Acts on sessions, media and msdb leave them, and so do the beginning and the end of a run.
+/// An act of a sound world does to its hosted databases what it does to the world: what one says comes behind its records, also a front of it, and a checkpoint once it is
+/// noted as the next one, which by itself changes nothing. One is based on a set, has a backup that runs or none, comes or goes. Other acts leave them, and so do the beginning and the end of a run.
 pub fn hosted_databases_follow_acts()
     ensures said { (w : World) (name : List ℕ) (said : List Said) (transactions : List Open) (hosted : List Hosted) (i : ℕ) (h : Hosted) → IsSound w → Hosts w hosted
         → position (names name) hosted ≡ Some i → slice_get hosted i ≡ Some h → MayDo w (logged name said transactions) → SaysNoCheckpoint said

@@ -22,8 +22,8 @@ use bk_machine::{
     fronts_may_stay, runs_are_cut_in_whole_worlds,
 };
 
-/// Let a run from a sound world, or its closing, be cut, also inside of what a database says, and let fronts of the hosted databases be left there, behind which only is lost what was open before
-/// the statement or is of the statement. A crash may leave a world that hosts these with all undone that is pending in them, whatever its counter within the bounds; its sets read as they did, and it has the same rows of msdb.
+/// Let a run from a sound world, or its closing, be cut, and let fronts of the hosted databases be left there, behind which only is lost what was open before the statement or is of it. A crash may
+/// leave a world that hosts these with all undone that is pending in them, whatever its counter within the bounds, with the same sets and rows of msdb.
 pub fn crashes_leave_settled_fronts()
     ensures runs { (old : World) (statements : List ScriptEntry) (moments : List ℕ) (outcomes : List Outcome) (least : ℕ) (before cut whole : World) (hosted fronts : List Hosted) (counter : ℕ)
         → IsSound old → IsRun old statements moments outcomes → CutsRun old outcomes least before cut whole → Hosts cut hosted → AreFronts before hosted fronts

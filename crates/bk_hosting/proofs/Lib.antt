@@ -1,3 +1,4 @@
+mod Answered
 mod Lists
 mod Fronts
 mod Said

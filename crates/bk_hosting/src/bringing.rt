@@ -17,12 +17,11 @@ ghost use Rattle.bk_hosting.specs.Hosting.{IsHosting, IsReady, IsSealedAt, Leave
 
 use crate::hosting::{Hosting, State};
 use crate::noting::note_of;
-use bk_device::Device;
+use bk_device::{Device, Trouble};
 use bk_facts::DataFile;
 use bk_ids::{Lsn, Rec, Sequence};
 use bk_known::Known;
 use bk_points::Points;
-use bk_stores::StoresError;
 use bk_volume::{Medium, StoredSet};
 use std::alloc::Global;
 use std::thread::Threads;
@@ -35,20 +34,19 @@ impl Hosting {
         at: usize,
         files: &[DataFile],
         points: &Points,
-    ) -> Result<Vec<u8>, StoresError>
+    ) -> Result<Vec<u8>, Trouble>
         requires inside { at < length self.now.stores.master.record.databases }
         ensures parked { OnOk result ((e : Entries) × (slice_get self.now.stores.master.record.databases at ≡ Some e) × (e.is_stored ≡ false)) }
         ensures unused { OnOk result (AreUnused self.now.stores.slots files.now) }
         ensures note { IfOk result (λ note. note.items ≡ points_bytes points.now) }
         ensures spelled { OnOk result (IsPoints points.now) }
         ensures short { IfOk result (λ note. length note.items ≤ 12288) }
-        ensures memory { IfErr result (λ e. e ≡ StoresError.NoMemory) }
+        ensures memory { IfErr result (λ e. e ≡ Trouble.NoMemory) }
     {
         if self.stores.is_stored(at) || !self.stores.has_none_of(files) {
-            return Err(StoresError::NoMemory);
+            return Err(Trouble::NoMemory);
         }
-        let note = note_of(alloc, points)?;
-        Ok(note)
+        note_of(alloc, points)
     }
 
     // Keeps these points of the database at this place, whose store is open, and in which nothing is.
@@ -65,12 +63,10 @@ impl Hosting {
         };
     }
 
-    /// Brings the database at this place up, which counts from 0 and is being restored: it is made of a full set that was opened on a medium, with these data files, the number of its latest checkpoint, what is
-    /// known of it, and these points, in which no checkpoint is awaited. What was pending in the backup is undone, and this record is said behind that; all is durable then, and nothing is open in it. Where no
-    /// database has one of these data files, and the set makes a database with them, a crash leaves the databases as before, but for what waits, or with this one in its place.
+    /// Brings the database at this place up, from 0, which is being restored: it is made of a full set, with these data files and these points, which await no checkpoint. What was pending is undone,
+    /// and this record is said; all is durable then. A crash leaves the databases as before, but for what waits, or with this one.
     ///
-    /// `Broken` is answered only where the set makes no database with these data files, or a database has one of them. Where the database isn't being restored, an open store has one of the data files, or there is no
-    /// room for the points in a note, the call ends as if memory were wanting.
+    /// `Broken` is answered only where the set makes no database with them, or another has one.
     pub fn bring_up<R: Threads + Sync, D: Device>(
         &mut self,
         rt: &R,
@@ -84,7 +80,7 @@ impl Hosting {
         known: &Known,
         points: Points,
         last: &Rec,
-    ) -> Result<(), StoresError>
+    ) -> Result<(), Trouble>
         requires ready { IsReady self.old }
         requires inside { at < length self.old.states }
         requires may { MayFill files.items }
@@ -101,10 +97,9 @@ impl Hosting {
         ensures crash { D.tells → (hosted : List Hosted) (told : Told) (r : Logged) (h : Hosted) → IsHosting (D.disk dev.old) self.old hosted → ComesUp (D.disk dev.old) self.old hosted at medium.now.name stored.now files.items checkpoint known.now points last.now told r → IsUpAs told r points h
             → Effect IsOurs (LeavesEither (own_of self.old) hosted (set hosted at h)) (D.disk dev.old) (D.disk dev.new) }
         ensures touches { D.tells → TouchesOurs (D.disk dev.old) (D.disk dev.new) }
-        ensures broken { D.tells → IsErrOf result StoresError.Broken → (hosted : List Hosted) (told : Told) (r : Logged) → IsHosting (D.disk dev.old) self.old hosted
+        ensures broken { D.tells → IsErrOf result Trouble.Broken → (hosted : List Hosted) (told : Told) (r : Logged) → IsHosting (D.disk dev.old) self.old hosted
             → ComesUp (D.disk dev.old) self.old hosted at medium.now.name stored.now files.items checkpoint known.now points last.now told r → ⊥ }
-        ensures not_an_instance { IsErrOf result StoresError.NotAnInstance → ⊥ }
-        ensures cause { HasCause D.disk_faults D.tell_faults dev.old dev.new (IsErrOf result StoresError.Fault) }
+        ensures cause { HasCause D.disk_faults D.tell_faults dev.old dev.new (IsErrOf result Trouble.Fault) }
     {
         let note = self.note_for(alloc, at, &files, &points)?;
         self.stores.bring_up(

@@ -2,11 +2,11 @@
 ghost use Rattle.std.specs.Prelude.{◌≡◌, ◌≤◌, ◌<◌, ◌+◌, ◌^◌, false, List, None, Some, length, set, slice_get, IfErr, OnOk, IsErrOf};
 ghost use Rattle.bk_device.specs.Counts.{HasCause};
 ghost use Rattle.bk_device.specs.Effects.{Effect};
+ghost use Rattle.bk_device.specs.Troubles.{IsPassing};
 ghost use Rattle.bk_hosted.specs.Hosted.{Hosted};
 ghost use Rattle.bk_paged.specs.Paged.{Standing, Touches};
 ghost use Rattle.bk_store.specs.Store.{Crashes, IsStore, Kept as KeptStore};
 ghost use Rattle.bk_store.specs.Told.{Told};
-ghost use Rattle.bk_stores.specs.Errors.{IsTrouble};
 ghost use Rattle.bk_stores.specs.Standing.{AreStanding};
 ghost use Rattle.bk_stores.specs.Stores.{AreStores, IsOurs, IsReady as AreReady, LeavesStores, TouchesOurs, fixed_of, sealed_at};
 ghost use Rattle.bk_hosting.specs.Checkpointing.{LeavesChecked, checked, marked};
@@ -14,11 +14,11 @@ ghost use Rattle.bk_hosting.specs.Hosting.{IsHosting, IsOpenAt, IsReady, own_of}
 
 use crate::hosting::Hosting;
 use crate::noting::points_on;
-use bk_device::Device;
+use bk_device::{Device, Trouble};
 use bk_ids::Lsn;
 use bk_points::Points;
 use bk_store::{Store, StoreError};
-use bk_stores::{Stores, StoresError};
+use bk_stores::Stores;
 use std::alloc::Global;
 
 // Makes a checkpoint of a store, where there is a number for its record.
@@ -44,8 +44,7 @@ fn mark_store<D: Device>(
     if store.end() >= 1 << 62 {
         return Err(StoreError::NoMemory);
     }
-    store.checkpoint(alloc, dev, time, floor)?;
-    Ok(())
+    store.checkpoint(alloc, dev, time, floor)
 }
 
 // Makes a checkpoint of the database at this place, whose store is open. A crash leaves the others, and of it what was durable, or some more of what was said.
@@ -56,7 +55,7 @@ fn mark_on<D: Device>(
     at: usize,
     time: u64,
     floor: Lsn,
-) -> Result<(), StoresError>
+) -> Result<(), Trouble>
     requires ready { AreReady stores.old }
     requires opened { IsOpenAt stores.old.slots at }
     requires standing { D.tells → AreStanding (D.disk dev.old) stores.old }
@@ -67,11 +66,11 @@ fn mark_on<D: Device>(
     ensures crash { D.tells → (tolds : List Told) (told : Told) → AreStores (D.disk dev.old) stores.old tolds → slice_get tolds at ≡ Some told
         → Effect IsOurs (LeavesStores (fixed_of stores.old.master.record) (sealed_at stores.old tolds) (set tolds at (marked told time))) (D.disk dev.old) (D.disk dev.new) }
     ensures touches { D.tells → TouchesOurs (D.disk dev.old) (D.disk dev.new) }
-    ensures trouble { IfErr result IsTrouble }
-    ensures cause { HasCause D.disk_faults D.tell_faults dev.old dev.new (IsErrOf result StoresError.Fault) }
+    ensures trouble { IfErr result IsPassing }
+    ensures cause { HasCause D.disk_faults D.tell_faults dev.old dev.new (IsErrOf result Trouble.Fault) }
 {
     let Some(mut store) = stores.take(at) else {
-        return Err(StoresError::NoMemory);
+        return Err(Trouble::NoMemory);
     };
     let made = mark_store(alloc, dev, &mut store, time, floor);
     stores.give(at, store);
@@ -98,11 +97,10 @@ fn fold(points: &mut Points)
 }
 
 impl Hosting {
-    /// Makes a checkpoint of the database at this place, which counts from 0, at this moment, in milliseconds since 1970-01-01 00:00:00 UTC: it is noted as the next one, with the least number that the live log
-    /// holds then, and its record is said; all that the database has said is durable then, and so is each page. Then its log is cut there, where nothing below is needed. A crash leaves the databases as before,
-    /// but for what waited, or this one with the checkpoint noted, or with its record.
+    /// Makes a checkpoint of the database at this place, from 0, at this moment, in milliseconds since 1970-01-01 00:00:00 UTC: it is noted with the least number that the live log then holds, and its record is said;
+    /// all that was said is durable then, and each page. Its log is cut there. A crash leaves the databases as before, but for what waited, or this one with the checkpoint noted, or said.
     ///
-    /// Only `Fault` and `NoMemory` are answered. Where there is no number for the record, or the database is being restored, the call ends as if memory were wanting.
+    /// Only `Fault` and `NoMemory` are answered.
     pub fn checkpoint<D: Device>(
         &mut self,
         alloc: Global,
@@ -110,7 +108,7 @@ impl Hosting {
         at: usize,
         time: u64,
         kept: Lsn,
-    ) -> Result<(), StoresError>
+    ) -> Result<(), Trouble>
         requires ready { IsReady self.old }
         requires inside { at < length self.old.states }
         requires standing { D.tells → AreStanding (D.disk dev.old) self.old.stores }
@@ -120,11 +118,11 @@ impl Hosting {
         ensures stands { D.tells → (hosted : List Hosted) (h : Hosted) → IsHosting (D.disk dev.old) self.old hosted → slice_get hosted at ≡ Some h → OnOk result (IsHosting (D.disk dev.new) self.new (set hosted at (checked h time kept))) }
         ensures crash { D.tells → (hosted : List Hosted) (h : Hosted) → IsHosting (D.disk dev.old) self.old hosted → slice_get hosted at ≡ Some h → Effect IsOurs (LeavesChecked (own_of self.old) hosted at h time kept) (D.disk dev.old) (D.disk dev.new) }
         ensures touches { D.tells → TouchesOurs (D.disk dev.old) (D.disk dev.new) }
-        ensures trouble { IfErr result IsTrouble }
-        ensures cause { HasCause D.disk_faults D.tell_faults dev.old dev.new (IsErrOf result StoresError.Fault) }
+        ensures trouble { IfErr result IsPassing }
+        ensures cause { HasCause D.disk_faults D.tell_faults dev.old dev.new (IsErrOf result Trouble.Fault) }
     {
         let Some(store) = self.stores.store(at) else {
-            return Err(StoresError::NoMemory);
+            return Err(Trouble::NoMemory);
         };
         let end = store.end();
         await_checkpoint(&mut self.states[at].points, end, kept);

@@ -1,8 +1,9 @@
 // A hosted database is copied into a set.
-ghost use Rattle.std.specs.Prelude.{◌≡◌, ◌≤◌, ◌<◌, ◌+◌, ◌^◌, ℕ, true, false, [], List, Some, length, slice_get, OnOk, IsErrOf};
+ghost use Rattle.std.specs.Prelude.{◌≡◌, ◌≤◌, ◌<◌, ◌+◌, ◌^◌, ℕ, true, false, [], List, Some, length, slice_get, IfErr, OnOk, IsErrOf};
 ghost use Rattle.bk_body.specs.Body.{Extent};
 ghost use Rattle.bk_copying.specs.Copying.{IsNamed};
 ghost use Rattle.bk_device.specs.Counts.{HasCause};
+ghost use Rattle.bk_device.specs.Troubles.{IsPassing};
 ghost use Rattle.bk_hosted.specs.Hosted.{Hosted};
 ghost use Rattle.bk_store.specs.Store.{Kept as KeptStore};
 ghost use Rattle.bk_store.specs.Told.{Told};
@@ -14,7 +15,7 @@ ghost use Rattle.bk_hosting.specs.Hosting.{AreFit, IsHosting, IsOpenAt, IsReady,
 
 use crate::hosting::Hosting;
 use bk_copying::{CopyError, copy_extents, copy_log};
-use bk_device::Device;
+use bk_device::{Device, Trouble};
 use bk_ids::{ExtentId, Lsn};
 use bk_store::Store;
 use bk_stores::Stores;
@@ -60,8 +61,7 @@ fn extents_on<D: Device>(
     };
     let copied = copy_extents(alloc, dev, &mut store, staged, extents);
     stores.give(at, store);
-    copied?;
-    Ok(())
+    copied
 }
 
 // Whether a store holds the durable records from one number to below another.
@@ -111,10 +111,10 @@ fn log_on<D: Device>(
 }
 
 impl Hosting {
-    /// Copies these data extents of the database at this place, which counts from 0, as of its end, into a set that has no log yet, one behind the other. All is as it was then, but that some of what waited may be
-    /// durable. A crash leaves the databases, but for what waits, and anything in the set's file.
+    /// Copies these data extents of the database at this place, from 0, as of its end, into a set that has no log yet. All is as it was then, but that some of what waited may be durable. A crash leaves the
+    /// databases, but for what waits, and anything in the set's file.
     ///
-    /// Where the database is being restored, the call ends as if memory were wanting. After an error the set is removed.
+    /// Only `Fault` and `NoMemory` are answered, `NoMemory` too while the database is being restored. After an error the set is removed.
     pub fn copy_extents<D: Device>(
         &mut self,
         alloc: Global,
@@ -122,7 +122,7 @@ impl Hosting {
         at: usize,
         staged: &mut Staged,
         extents: &[ExtentId],
-    ) -> Result<(), CopyError>
+    ) -> Result<(), Trouble>
         requires ready { IsReady self.old }
         requires inside { at < length self.old.states }
         requires there { HaveExtents self.old.stores.slots at extents.now }
@@ -145,19 +145,20 @@ impl Hosting {
             → OnOk result ((told : Told) × Tells told h × HoldsCopies (D.disk dev.new) staged.new before told extents.now) }
         ensures crash { D.tells → (hosted : List Hosted) → IsHosting (D.disk dev.old) self.old hosted → CopyLeaves (own_of self.old) hosted staged.old (D.disk dev.old) (D.disk dev.new) }
         ensures touches { D.tells → TouchesOursOr staged.old (D.disk dev.old) (D.disk dev.new) }
-        ensures cause { HasCause D.disk_faults D.tell_faults dev.old dev.new (IsErrOf result CopyError.Fault) }
+        ensures trouble { IfErr result IsPassing }
+        ensures cause { HasCause D.disk_faults D.tell_faults dev.old dev.new (IsErrOf result Trouble.Fault) }
     {
         if !self.is_open(at) {
-            return Err(CopyError::NoMemory);
+            return Err(Trouble::NoMemory);
         }
         extents_on(&mut self.stores, alloc, dev, at, staged, extents)?;
         Ok(())
     }
 
-    /// Copies the records of the database at this place, which counts from 0, from the number `from` to below `to`, into a set behind what it has. The hosting stays as it is. A crash leaves the databases, but for
-    /// what waits, and anything in the set's file.
+    /// Copies the records of the database at this place, from 0, from the number `from` to below `to`, into a set behind what it has. The hosting stays as it is. A crash leaves the databases, but for what waits,
+    /// and anything in the set's file.
     ///
-    /// Where the live log doesn't hold these records, some of them wait, or the database is being restored, the call ends as if memory were wanting. After an error the set is removed.
+    /// Only `Fault` and `NoMemory` are answered, `NoMemory` too where the live log doesn't hold these records, or some of them wait. After an error the set is removed.
     pub fn copy_log<D: Device>(
         &self,
         alloc: Global,
@@ -166,7 +167,7 @@ impl Hosting {
         staged: &mut Staged,
         from: Lsn,
         to: Lsn,
-    ) -> Result<(), CopyError>
+    ) -> Result<(), Trouble>
         requires ready { IsReady self.now }
         requires inside { at < length self.now.states }
         requires standing { D.tells → AreStanding (D.disk dev.old) self.now.stores }
@@ -182,8 +183,10 @@ impl Hosting {
             → OnOk result (HoldsLog (D.disk dev.new) staged.new extents before h.records from to) }
         ensures crash { D.tells → (hosted : List Hosted) → IsHosting (D.disk dev.old) self.now hosted → CopyLeaves (own_of self.now) hosted staged.old (D.disk dev.old) (D.disk dev.new) }
         ensures touches { D.tells → TouchesOursOr staged.old (D.disk dev.old) (D.disk dev.new) }
-        ensures cause { HasCause D.disk_faults D.tell_faults dev.old dev.new (IsErrOf result CopyError.Fault) }
+        ensures trouble { IfErr result IsPassing }
+        ensures cause { HasCause D.disk_faults D.tell_faults dev.old dev.new (IsErrOf result Trouble.Fault) }
     {
-        log_on(&self.stores, alloc, dev, at, staged, from, to)
+        log_on(&self.stores, alloc, dev, at, staged, from, to)?;
+        Ok(())
     }
 }

@@ -19,9 +19,9 @@ ghost use Rattle.bk_hosting.specs.Loading.{HoldsHosting, IsOpening, IsPartly, Le
 
 use crate::hosting::{Hosting, State};
 use crate::states::{noted_points, read_state};
-use bk_device::Device;
+use bk_device::{Device, Trouble};
 use bk_ids::Sequence;
-use bk_stores::{Stores, StoresError};
+use bk_stores::{LoadError, Stores};
 use bk_world::Status;
 use std::alloc::Global;
 use std::thread::Threads;
@@ -32,20 +32,19 @@ fn read_at<D: Device>(
     alloc: Global,
     dev: &mut D,
     at: usize,
-) -> Result<State, StoresError>
+) -> Result<State, Trouble>
     requires opened { IsSealedAt stores.now.slots at }
     requires standing { D.tells → AreStanding (D.disk dev.old) stores.now }
     ensures state { D.tells → (tolds : List Told) (told : Told) (h : Hosted) → AreStores (D.disk dev.old) stores.now tolds → slice_get tolds at ≡ Some told → Tells told h → IfOk result (λ s. s ≡ record { points = folded h.points h.records; job = None; transactions = []; known = None }) }
     ensures standing { D.tells → AreStanding (D.disk dev.new) stores.now }
     ensures stands { D.tells → (tolds : List Told) → AreStores (D.disk dev.old) stores.now tolds → AreStores (D.disk dev.new) stores.now tolds }
     ensures effect { D.tells → ChangesNothing (D.disk dev.old) (D.disk dev.new) }
-    ensures broken { D.tells → IsErrOf result StoresError.Broken → (tolds : List Told) (told : Told) (h : Hosted) → AreStores (D.disk dev.old) stores.now tolds → slice_get tolds at ≡ Some told → Tells told h → ⊥ }
-    ensures not_an_instance { IsErrOf result StoresError.NotAnInstance → ⊥ }
-    ensures cause { HasCause D.disk_faults D.tell_faults dev.old dev.new (IsErrOf result StoresError.Fault) }
+    ensures broken { D.tells → IsErrOf result Trouble.Broken → (tolds : List Told) (told : Told) (h : Hosted) → AreStores (D.disk dev.old) stores.now tolds → slice_get tolds at ≡ Some told → Tells told h → ⊥ }
+    ensures cause { HasCause D.disk_faults D.tell_faults dev.old dev.new (IsErrOf result Trouble.Fault) }
 {
     match stores.store(at) {
         Some(store) => read_state(alloc, dev, store),
-        None => Err(StoresError::NoMemory),
+        None => Err(Trouble::NoMemory),
     }
 }
 
@@ -62,20 +61,19 @@ fn noted_at<D: Device>(
     alloc: Global,
     dev: &mut D,
     at: usize,
-) -> Result<State, StoresError>
+) -> Result<State, Trouble>
     requires unstored { (e : Entries) × (slice_get stores.now.master.record.databases at ≡ Some e) × (e.is_stored ≡ false) }
     requires inside { at < length stores.now.slots }
     requires standing { D.tells → AreStanding (D.disk dev.old) stores.now }
     ensures state { D.tells → (tolds : List Told) (told : Told) (h : Hosted) → AreStores (D.disk dev.old) stores.now tolds → slice_get tolds at ≡ Some told → Tells told h → is_up h ≡ false → h.job ≡ None → h.transactions ≡ [] → IfOk result (λ s. s ≡ state_of h) }
     ensures effect { D.tells → ChangesNothing (D.disk dev.old) (D.disk dev.new) }
-    ensures broken { D.tells → IsErrOf result StoresError.Broken → (tolds : List Told) (told : Told) (h : Hosted) → AreStores (D.disk dev.old) stores.now tolds → slice_get tolds at ≡ Some told → Tells told h → is_up h ≡ false → ⊥ }
-    ensures not_an_instance { IsErrOf result StoresError.NotAnInstance → ⊥ }
-    ensures cause { HasCause D.disk_faults D.tell_faults dev.old dev.new (IsErrOf result StoresError.Fault) }
+    ensures broken { D.tells → IsErrOf result Trouble.Broken → (tolds : List Told) (told : Told) (h : Hosted) → AreStores (D.disk dev.old) stores.now tolds → slice_get tolds at ≡ Some told → Tells told h → is_up h ≡ false → ⊥ }
+    ensures cause { HasCause D.disk_faults D.tell_faults dev.old dev.new (IsErrOf result Trouble.Fault) }
 {
     let (known, note) = stores.noted(alloc, dev, at)?;
     let points = noted_points(alloc, &note, known.spec.storage.files.as_slice())?;
     if is_online(&points.status) {
-        return Err(StoresError::Broken);
+        return Err(Trouble::Broken);
     }
     Ok(State {
         points,
@@ -92,7 +90,7 @@ impl Hosting {
         rt: &R,
         alloc: Global,
         dev: &mut D,
-    ) -> Result<(), StoresError>
+    ) -> Result<(), Trouble>
         requires partly { IsPartly self.old }
         requires more { length self.old.states < length self.old.stores.slots }
         requires stored { (e : Entries) × (slice_get self.old.stores.master.record.databases (length self.old.states) ≡ Some e) × (e.is_stored ≡ true) }
@@ -105,22 +103,21 @@ impl Hosting {
         ensures crash { D.tells → (number : ℕ) (hosted : List Hosted) → IsOpening (D.disk dev.old) self.old hosted → Effect IsOurs (LeavesUndoing number (own_of self.old) hosted) (D.disk dev.old) (D.disk dev.new) }
         ensures touches { D.tells → TouchesOurs (D.disk dev.old) (D.disk dev.new) }
         ensures still { D.tells → AreQuiet (D.disk dev.old).files → OnOk result (ChangesNothing (D.disk dev.old) (D.disk dev.new)) }
-        ensures broken { D.tells → IsErrOf result StoresError.Broken → (hosted : List Hosted) → IsOpening (D.disk dev.old) self.old hosted → ⊥ }
-        ensures not_an_instance { IsErrOf result StoresError.NotAnInstance → ⊥ }
-        ensures cause { HasCause D.disk_faults D.tell_faults dev.old dev.new (IsErrOf result StoresError.Fault) }
+        ensures broken { D.tells → IsErrOf result Trouble.Broken → (hosted : List Hosted) → IsOpening (D.disk dev.old) self.old hosted → ⊥ }
+        ensures cause { HasCause D.disk_faults D.tell_faults dev.old dev.new (IsErrOf result Trouble.Fault) }
     {
         let at = self.states.len();
         self.stores.open(rt, alloc, dev, at)?;
         let state = read_at(&self.stores, alloc, dev, at)?;
         if !is_online(&state.points.status) {
-            return Err(StoresError::Broken);
+            return Err(Trouble::Broken);
         }
         self.states.push(state)?;
         Ok(())
     }
 
     // Reads what is known of the database behind those that were read, which is being restored.
-    fn read_parked<D: Device>(&mut self, alloc: Global, dev: &mut D) -> Result<(), StoresError>
+    fn read_parked<D: Device>(&mut self, alloc: Global, dev: &mut D) -> Result<(), Trouble>
         requires partly { IsPartly self.old }
         requires more { length self.old.states < length self.old.stores.slots }
         requires unstored { (e : Entries) × (slice_get self.old.stores.master.record.databases (length self.old.states) ≡ Some e) × (e.is_stored ≡ false) }
@@ -133,9 +130,8 @@ impl Hosting {
         ensures crash { D.tells → (number : ℕ) (hosted : List Hosted) → IsOpening (D.disk dev.old) self.old hosted → Effect IsOurs (LeavesUndoing number (own_of self.old) hosted) (D.disk dev.old) (D.disk dev.new) }
         ensures touches { D.tells → TouchesOurs (D.disk dev.old) (D.disk dev.new) }
         ensures still { D.tells → OnOk result (ChangesNothing (D.disk dev.old) (D.disk dev.new)) }
-        ensures broken { D.tells → IsErrOf result StoresError.Broken → (hosted : List Hosted) → IsOpening (D.disk dev.old) self.old hosted → ⊥ }
-        ensures not_an_instance { IsErrOf result StoresError.NotAnInstance → ⊥ }
-        ensures cause { HasCause D.disk_faults D.tell_faults dev.old dev.new (IsErrOf result StoresError.Fault) }
+        ensures broken { D.tells → IsErrOf result Trouble.Broken → (hosted : List Hosted) → IsOpening (D.disk dev.old) self.old hosted → ⊥ }
+        ensures cause { HasCause D.disk_faults D.tell_faults dev.old dev.new (IsErrOf result Trouble.Fault) }
     {
         let at = self.states.len();
         let state = noted_at(&self.stores, alloc, dev, at)?;
@@ -149,7 +145,7 @@ impl Hosting {
         rt: &R,
         alloc: Global,
         dev: &mut D,
-    ) -> Result<(), StoresError>
+    ) -> Result<(), Trouble>
         requires partly { IsPartly self.old }
         requires more { length self.old.states < length self.old.stores.slots }
         requires standing { D.tells → AreStanding (D.disk dev.old) self.old.stores }
@@ -161,9 +157,8 @@ impl Hosting {
         ensures crash { D.tells → (number : ℕ) (hosted : List Hosted) → IsOpening (D.disk dev.old) self.old hosted → Effect IsOurs (LeavesUndoing number (own_of self.old) hosted) (D.disk dev.old) (D.disk dev.new) }
         ensures touches { D.tells → TouchesOurs (D.disk dev.old) (D.disk dev.new) }
         ensures still { D.tells → AreQuiet (D.disk dev.old).files → OnOk result (ChangesNothing (D.disk dev.old) (D.disk dev.new)) }
-        ensures broken { D.tells → IsErrOf result StoresError.Broken → (hosted : List Hosted) → IsOpening (D.disk dev.old) self.old hosted → ⊥ }
-        ensures not_an_instance { IsErrOf result StoresError.NotAnInstance → ⊥ }
-        ensures cause { HasCause D.disk_faults D.tell_faults dev.old dev.new (IsErrOf result StoresError.Fault) }
+        ensures broken { D.tells → IsErrOf result Trouble.Broken → (hosted : List Hosted) → IsOpening (D.disk dev.old) self.old hosted → ⊥ }
+        ensures cause { HasCause D.disk_faults D.tell_faults dev.old dev.new (IsErrOf result Trouble.Fault) }
     {
         if self.stores.is_stored(self.states.len()) {
             return self.open_stored(rt, alloc, dev);
@@ -177,7 +172,7 @@ impl Hosting {
         rt: &R,
         alloc: Global,
         dev: &mut D,
-    ) -> Result<(), StoresError>
+    ) -> Result<(), Trouble>
         requires partly { IsPartly self.old }
         requires standing { D.tells → AreStanding (D.disk dev.old) self.old.stores }
         ensures ready { OnOk result (IsReady self.new) }
@@ -187,9 +182,8 @@ impl Hosting {
         ensures crash { D.tells → (number : ℕ) (hosted : List Hosted) → IsOpening (D.disk dev.old) self.old hosted → Effect IsOurs (LeavesUndoing number (own_of self.old) hosted) (D.disk dev.old) (D.disk dev.new) }
         ensures touches { D.tells → TouchesOurs (D.disk dev.old) (D.disk dev.new) }
         ensures still { D.tells → AreQuiet (D.disk dev.old).files → OnOk result (ChangesNothing (D.disk dev.old) (D.disk dev.new)) }
-        ensures broken { D.tells → IsErrOf result StoresError.Broken → (hosted : List Hosted) → IsOpening (D.disk dev.old) self.old hosted → ⊥ }
-        ensures not_an_instance { IsErrOf result StoresError.NotAnInstance → ⊥ }
-        ensures cause { HasCause D.disk_faults D.tell_faults dev.old dev.new (IsErrOf result StoresError.Fault) }
+        ensures broken { D.tells → IsErrOf result Trouble.Broken → (hosted : List Hosted) → IsOpening (D.disk dev.old) self.old hosted → ⊥ }
+        ensures cause { HasCause D.disk_faults D.tell_faults dev.old dev.new (IsErrOf result Trouble.Fault) }
     {
         'stores: while self.states.len() < self.stores.count() {
             self.open_next(rt, alloc, dev)?;
@@ -197,17 +191,16 @@ impl Hosting {
         Ok(())
     }
 
-    /// Opens the databases that an instance hosts, or makes an instance with this number where none is made: of each all is undone that was pending, and nothing is open then; one that is being restored stays so.
-    /// What was being made or removed of databases is removed. A crash leaves the databases that there were, of each perhaps some of what undoes; then this call opens them again. Where nothing is
-    /// to be finished, removed or undone the files stay as they are.
+    /// Opens the databases that an instance hosts, or makes an instance with this number where none is made: what was pending is undone, and what was being made or removed is removed. A crash leaves the databases,
+    /// of each perhaps some of what undoes. Where nothing is to be done the files stay as they are.
     ///
-    /// `NotAnInstance` is answered only where an instance is made and its control file holds no control, and `Broken` only where the files hold no hosted databases. `NoMemory` may come after files were touched.
+    /// `NotAnInstance` is answered only where the control file of an instance holds no control, and `Broken` only where the files hold no hosted databases.
     pub fn load<R: Threads + Sync, D: Device>(
         rt: &R,
         alloc: Global,
         dev: &mut D,
         number: u64,
-    ) -> Result<Hosting, StoresError>
+    ) -> Result<Hosting, LoadError>
         ensures ready { IfOk result IsReady }
         ensures standing { D.tells → IfOk result (λ x. AreStanding (D.disk dev.new) x.stores) }
         ensures made { D.tells → OnOk result (IsMade (D.disk dev.new).files) }
@@ -215,12 +208,12 @@ impl Hosting {
         ensures own { D.tells → IsSettled (D.disk dev.old) → (own : Own) (hosted : List Hosted) → HoldsHosting number own (D.disk dev.old).files hosted → IfOk result (λ x. own_of x ≡ own) }
         ensures crash { D.tells → IsSettled (D.disk dev.old) → (own : Own) (hosted : List Hosted) → HoldsHosting number own (D.disk dev.old).files hosted → Effect IsOurs (LeavesUndoing number own hosted) (D.disk dev.old) (D.disk dev.new) }
         ensures touches { D.tells → TouchesOurs (D.disk dev.old) (D.disk dev.new) }
-        ensures untouched { D.tells → IsErrOf result StoresError.NotAnInstance → ChangesNothing (D.disk dev.old) (D.disk dev.new) }
+        ensures untouched { D.tells → IsErrOf result LoadError.NotAnInstance → ChangesNothing (D.disk dev.old) (D.disk dev.new) }
         ensures still { D.tells → IsSettled (D.disk dev.old) → AreQuiet (D.disk dev.old).files → OnOk result (ChangesNothing (D.disk dev.old) (D.disk dev.new)) }
-        ensures not_an_instance { D.tells → IsErrOf result StoresError.NotAnInstance → IsNoInstance (D.disk dev.old).files }
-        ensures no_instance { D.tells → IsNoInstance (D.disk dev.old).files → MatchResult result (λ _. ⊥) (λ e. e ≢ StoresError.Broken) }
-        ensures broken { D.tells → IsErrOf result StoresError.Broken → IsSettled (D.disk dev.old) → (own : Own) (hosted : List Hosted) → HoldsHosting number own (D.disk dev.old).files hosted → ⊥ }
-        ensures cause { HasCause D.disk_faults D.tell_faults dev.old dev.new (IsErrOf result StoresError.Fault) }
+        ensures not_an_instance { D.tells → IsErrOf result LoadError.NotAnInstance → IsNoInstance (D.disk dev.old).files }
+        ensures no_instance { D.tells → IsNoInstance (D.disk dev.old).files → MatchResult result (λ _. ⊥) (λ e. e ≢ LoadError.Broken) }
+        ensures broken { D.tells → IsErrOf result LoadError.Broken → IsSettled (D.disk dev.old) → (own : Own) (hosted : List Hosted) → HoldsHosting number own (D.disk dev.old).files hosted → ⊥ }
+        ensures cause { HasCause D.disk_faults D.tell_faults dev.old dev.new (IsErrOf result LoadError.Fault) }
     {
         let stores = Stores::load(alloc, dev, number)?;
         let mut hosting = Hosting {

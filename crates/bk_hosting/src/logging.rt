@@ -3,10 +3,10 @@ ghost use Rattle.std.specs.Prelude.{◌≡◌, ◌<◌, true, List, Some, length
 ghost use Rattle.std.specs.List.{AllByRecursion};
 ghost use Rattle.bk_device.specs.Counts.{HasCause};
 ghost use Rattle.bk_device.specs.Effects.{Effect};
+ghost use Rattle.bk_device.specs.Troubles.{IsPassing};
 ghost use Rattle.bk_hosted.specs.Hosted.{Hosted, saying};
 ghost use Rattle.bk_ids.specs.declared.record.Rec.{Rec as Recs};
 ghost use Rattle.bk_record.specs.Spelling.{KeepsLimits};
-ghost use Rattle.bk_stores.specs.Errors.{IsTrouble};
 ghost use Rattle.bk_stores.specs.Standing.{AreStanding};
 ghost use Rattle.bk_stores.specs.Stores.{IsOurs, TouchesOurs};
 ghost use Rattle.bk_world.specs.Records.{Said};
@@ -14,17 +14,16 @@ ghost use Rattle.bk_hosting.specs.Hosting.{IsHosting, IsReady, IsSealedAt, Leave
 
 use crate::hosting::Hosting;
 use crate::saying::say_on;
-use bk_device::Device;
+use bk_device::{Device, Trouble};
 use bk_ids::{Rec, Sequence};
-use bk_stores::StoresError;
 use bk_world::Open;
 use std::alloc::Global;
 
 impl Hosting {
-    /// The database at this place, which counts from 0, says these records at its end, and then these transactions are open. Where it is to last, all that it has said is durable then; else it waits in
-    /// memory. A crash leaves the databases as before, but for what waited, or this one with a front of what it says.
+    /// The database at this place, from 0, says these records at its end, and then these transactions are open. Where it is to last, all that it has said is durable then; else it waits in memory. A crash leaves
+    /// the databases as before, but for what waited, or this one with a front of what it says.
     ///
-    /// Only `Fault` and `NoMemory` are answered. Where the records may not come next, or the database is being restored, the call ends as if memory were wanting.
+    /// Only `Fault` and `NoMemory` are answered, `NoMemory` too where the records may not come next.
     pub fn log<D: Device>(
         &mut self,
         alloc: Global,
@@ -33,7 +32,7 @@ impl Hosting {
         records: &[Rec],
         transactions: Sequence<Open>,
         lasting: bool,
-    ) -> Result<(), StoresError>
+    ) -> Result<(), Trouble>
         requires ready { IsReady self.old }
         requires inside { at < length self.old.states }
         requires limits { AllByRecursion (λ (r : Recs). KeepsLimits r.body) records.now }
@@ -47,11 +46,11 @@ impl Hosting {
         ensures crash { D.tells → (hosted : List Hosted) (h : Hosted) (said : List Said) → IsHosting (D.disk dev.old) self.old hosted → slice_get hosted at ≡ Some h → MaySayNow h said transactions records.now lasting
             → Effect IsOurs (LeavesSaid (own_of self.old) hosted at h said transactions) (D.disk dev.old) (D.disk dev.new) }
         ensures touches { D.tells → TouchesOurs (D.disk dev.old) (D.disk dev.new) }
-        ensures trouble { IfErr result IsTrouble }
-        ensures cause { HasCause D.disk_faults D.tell_faults dev.old dev.new (IsErrOf result StoresError.Fault) }
+        ensures trouble { IfErr result IsPassing }
+        ensures cause { HasCause D.disk_faults D.tell_faults dev.old dev.new (IsErrOf result Trouble.Fault) }
     {
         if !self.is_open(at) {
-            return Err(StoresError::NoMemory);
+            return Err(Trouble::NoMemory);
         }
         say_on(&mut self.stores, alloc, dev, at, records, lasting)?;
         self.states[at].transactions = transactions;

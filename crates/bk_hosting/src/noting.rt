@@ -2,21 +2,21 @@
 ghost use Rattle.std.specs.Prelude.{◌≡◌, ◌≤◌, ◌<◌, ◌⊎◌, List, None, Some, true, false, length, set, slice_get, IfOk, IfErr, OnOk, IsErrOf};
 ghost use Rattle.bk_device.specs.Counts.{HasCause};
 ghost use Rattle.bk_device.specs.Effects.{Effect};
+ghost use Rattle.bk_device.specs.Troubles.{IsPassing};
 ghost use Rattle.bk_hosted.specs.Hosted.{Hosted, based_points, basing, folding};
 ghost use Rattle.bk_points.specs.Points.{IsPoints, KeepsPoints, points_bytes};
 ghost use Rattle.bk_store.specs.Store.{sealed_in, Kept as KeptStore};
 ghost use Rattle.bk_store.specs.Told.{Told};
-ghost use Rattle.bk_stores.specs.Errors.{IsTrouble};
 ghost use Rattle.bk_stores.specs.Standing.{AreStanding};
 ghost use Rattle.bk_stores.specs.Stores.{AreStores, IsOurs, IsReady as AreReady, LeavesStores, TouchesOurs, sealed_at};
 ghost use Rattle.bk_hosting.specs.Hosting.{IsHosting, IsOpenAt, IsReady, LeavesEither, own_of};
 ghost use Rattle.bk_hosting.specs.Saying.{NotesOn, NotesPoints, pointing};
 
 use crate::hosting::Hosting;
-use bk_device::Device;
+use bk_device::{Device, Trouble};
 use bk_ids::RecoveryModel;
 use bk_points::{Points, spell_points};
-use bk_stores::{Stores, StoresError};
+use bk_stores::Stores;
 use bk_world::{Base, Header, Status};
 use std::alloc::Global;
 
@@ -32,14 +32,14 @@ fn have_spelling(points: &Points) -> bool
 }
 
 /// A note that says these points.
-pub(crate) fn note_of(alloc: Global, points: &Points) -> Result<Vec<u8>, StoresError>
+pub(crate) fn note_of(alloc: Global, points: &Points) -> Result<Vec<u8>, Trouble>
     ensures note { IfOk result (λ note. note.items ≡ points_bytes points.now) }
     ensures spelled { OnOk result (IsPoints points.now) }
     ensures short { IfOk result (λ note. length note.items ≤ 12288) }
-    ensures memory { IfErr result (λ e. e ≡ StoresError.NoMemory) }
+    ensures memory { IfErr result (λ e. e ≡ Trouble.NoMemory) }
 {
     if !have_spelling(points) {
-        return Err(StoresError::NoMemory);
+        return Err(Trouble::NoMemory);
     }
     Ok(spell_points(alloc, points)?)
 }
@@ -51,7 +51,7 @@ fn note_on<D: Device>(
     dev: &mut D,
     at: usize,
     note: &[u8],
-) -> Result<(), StoresError>
+) -> Result<(), Trouble>
     requires ready { AreReady stores.old }
     requires opened { IsOpenAt stores.old.slots at }
     requires short { length note.now ≤ 12288 }
@@ -63,11 +63,11 @@ fn note_on<D: Device>(
     ensures stands { D.tells → (tolds : List Told) (told : Told) → AreStores (D.disk dev.old) stores.old tolds → slice_get tolds at ≡ Some told → OnOk result (AreStores (D.disk dev.new) stores.new (set tolds at (record told { note = note.now }))) }
     ensures crash { D.tells → (tolds : List Told) (told : Told) → AreStores (D.disk dev.old) stores.old tolds → slice_get tolds at ≡ Some told → NotesOn stores.old tolds at (record told { note = note.now }) (D.disk dev.old) (D.disk dev.new) }
     ensures touches { D.tells → TouchesOurs (D.disk dev.old) (D.disk dev.new) }
-    ensures trouble { IfErr result IsTrouble }
-    ensures cause { HasCause D.disk_faults D.tell_faults dev.old dev.new (IsErrOf result StoresError.Fault) }
+    ensures trouble { IfErr result IsPassing }
+    ensures cause { HasCause D.disk_faults D.tell_faults dev.old dev.new (IsErrOf result Trouble.Fault) }
 {
     let Some(mut store) = stores.take(at) else {
-        return Err(StoresError::NoMemory);
+        return Err(Trouble::NoMemory);
     };
     let noted = store.set_note(alloc, dev, note);
     stores.give(at, store);
@@ -82,7 +82,7 @@ pub(crate) fn points_on<D: Device>(
     dev: &mut D,
     at: usize,
     points: &Points,
-) -> Result<(), StoresError>
+) -> Result<(), Trouble>
     requires ready { AreReady stores.old }
     requires opened { IsOpenAt stores.old.slots at }
     requires standing { D.tells → AreStanding (D.disk dev.old) stores.old }
@@ -96,8 +96,8 @@ pub(crate) fn points_on<D: Device>(
     ensures crash { D.tells → (tolds : List Told) (told : Told) → AreStores (D.disk dev.old) stores.old tolds → slice_get tolds at ≡ Some told
         → NotesPoints stores.old tolds at told points.now (D.disk dev.old) (D.disk dev.new) }
     ensures touches { D.tells → TouchesOurs (D.disk dev.old) (D.disk dev.new) }
-    ensures trouble { IfErr result IsTrouble }
-    ensures cause { HasCause D.disk_faults D.tell_faults dev.old dev.new (IsErrOf result StoresError.Fault) }
+    ensures trouble { IfErr result IsPassing }
+    ensures cause { HasCause D.disk_faults D.tell_faults dev.old dev.new (IsErrOf result Trouble.Fault) }
 {
     let note = note_of(alloc, points)?;
     note_on(stores, alloc, dev, at, &note)
@@ -120,17 +120,17 @@ fn base_points(points: &mut Points, header: &Header)
 }
 
 impl Hosting {
-    /// The database at this place, which counts from 0, is based on this set: a differential would be. Where no log backup could come before, its log chain begins with the set. A crash leaves the databases as
-    /// before, but for what waited, or with this one based on the set.
+    /// The database at this place, from 0, is based on this set: a differential would be. Where no log backup could come before, its log chain begins with the set. A crash leaves the databases as before, but for
+    /// what waited, or with this one based on the set.
     ///
-    /// Only `Fault` and `NoMemory` are answered. Where there is no room for its points in a note, or the database is being restored, the call ends as if memory were wanting.
+    /// Only `Fault` and `NoMemory` are answered, `NoMemory` too where there is no room for its points in a note.
     pub fn base<D: Device>(
         &mut self,
         alloc: Global,
         dev: &mut D,
         at: usize,
         header: &Header,
-    ) -> Result<(), StoresError>
+    ) -> Result<(), Trouble>
         requires ready { IsReady self.old }
         requires inside { at < length self.old.states }
         requires standing { D.tells → AreStanding (D.disk dev.old) self.old.stores }
@@ -141,14 +141,13 @@ impl Hosting {
         ensures crash { D.tells → (hosted : List Hosted) (h : Hosted) → IsHosting (D.disk dev.old) self.old hosted → slice_get hosted at ≡ Some h
             → Effect IsOurs (LeavesEither (own_of self.old) hosted (set hosted at (basing header.now (folding h)))) (D.disk dev.old) (D.disk dev.new) }
         ensures touches { D.tells → TouchesOurs (D.disk dev.old) (D.disk dev.new) }
-        ensures trouble { IfErr result IsTrouble }
-        ensures cause { HasCause D.disk_faults D.tell_faults dev.old dev.new (IsErrOf result StoresError.Fault) }
+        ensures trouble { IfErr result IsPassing }
+        ensures cause { HasCause D.disk_faults D.tell_faults dev.old dev.new (IsErrOf result Trouble.Fault) }
     {
         if !self.is_open(at) {
-            return Err(StoresError::NoMemory);
+            return Err(Trouble::NoMemory);
         }
         base_points(&mut self.states[at].points, header);
-        points_on(&mut self.stores, alloc, dev, at, &self.states[at].points)?;
-        Ok(())
+        points_on(&mut self.stores, alloc, dev, at, &self.states[at].points)
     }
 }

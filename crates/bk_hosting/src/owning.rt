@@ -2,17 +2,16 @@
 ghost use Rattle.std.specs.Prelude.{◌≡◌, ◌⊎◌, List, IfErr, OnOk, IsErrOf};
 ghost use Rattle.bk_device.specs.Counts.{HasCause};
 ghost use Rattle.bk_device.specs.Effects.{Effect};
+ghost use Rattle.bk_device.specs.Troubles.{IsPassing};
 ghost use Rattle.bk_hosted.specs.Hosted.{Hosted};
 ghost use Rattle.bk_master.specs.Spelling.{KeepsOwn};
-ghost use Rattle.bk_stores.specs.Errors.{IsTrouble};
 ghost use Rattle.bk_stores.specs.Standing.{AreStanding};
 ghost use Rattle.bk_stores.specs.Stores.{IsOurs, TouchesOurs};
 ghost use Rattle.bk_hosting.specs.Hosting.{IsHosting, IsReady, LeavesHosted, own_of};
 
 use crate::hosting::Hosting;
-use bk_device::Device;
+use bk_device::{Device, Trouble};
 use bk_master::Own;
-use bk_stores::StoresError;
 use std::alloc::Global;
 
 impl Hosting {
@@ -24,7 +23,7 @@ impl Hosting {
         alloc: Global,
         dev: &mut D,
         own: Own,
-    ) -> Result<(), StoresError>
+    ) -> Result<(), Trouble>
         requires ready { IsReady self.old }
         requires own { KeepsOwn own }
         requires standing { D.tells → AreStanding (D.disk dev.old) self.old.stores }
@@ -36,10 +35,9 @@ impl Hosting {
         ensures crash { D.tells → (hosted : List Hosted) → IsHosting (D.disk dev.old) self.old hosted
             → Effect IsOurs (λ image. LeavesHosted (own_of self.old) hosted image ⊎ LeavesHosted own hosted image) (D.disk dev.old) (D.disk dev.new) }
         ensures touches { D.tells → TouchesOurs (D.disk dev.old) (D.disk dev.new) }
-        ensures trouble { IfErr result IsTrouble }
-        ensures cause { HasCause D.disk_faults D.tell_faults dev.old dev.new (IsErrOf result StoresError.Fault) }
+        ensures trouble { IfErr result IsPassing }
+        ensures cause { HasCause D.disk_faults D.tell_faults dev.old dev.new (IsErrOf result Trouble.Fault) }
     {
-        self.stores.put_own(alloc, dev, own)?;
-        Ok(())
+        self.stores.put_own(alloc, dev, own)
     }
 }

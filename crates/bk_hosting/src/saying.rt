@@ -3,12 +3,12 @@ ghost use Rattle.std.specs.Prelude.{◌≡◌, ◌≤◌, ◌<◌, ◌+◌, true
 ghost use Rattle.std.specs.List.{AllByRecursion};
 ghost use Rattle.bk_device.specs.Counts.{HasCause};
 ghost use Rattle.bk_device.specs.Effects.{Effect};
+ghost use Rattle.bk_device.specs.Troubles.{IsPassing};
 ghost use Rattle.bk_ids.specs.declared.record.Rec.{Rec as Recs};
 ghost use Rattle.bk_paged.specs.Paged.{Standing, Touches};
 ghost use Rattle.bk_record.specs.Spelling.{KeepsLimits};
 ghost use Rattle.bk_store.specs.Store.{Crashes, IsStore, Kept as KeptStore};
 ghost use Rattle.bk_store.specs.Told.{Told};
-ghost use Rattle.bk_stores.specs.Errors.{IsTrouble};
 ghost use Rattle.bk_stores.specs.Making.{IsSealed};
 ghost use Rattle.bk_stores.specs.Standing.{AreStanding};
 ghost use Rattle.bk_stores.specs.Stores.{AreStores, IsOurs, IsReady, LeavesStores, TouchesOurs, fixed_of, sealed_at};
@@ -16,10 +16,10 @@ ghost use Rattle.bk_world.specs.Records.{Logged};
 ghost use Rattle.bk_hosting.specs.Hosting.{IsOpenAt};
 ghost use Rattle.bk_hosting.specs.Saying.{MaySayAll, SealsUpTo, telling};
 
-use bk_device::Device;
+use bk_device::{Device, Trouble};
 use bk_ids::Rec;
 use bk_store::{Store, StoreError};
-use bk_stores::{Stores, StoresError};
+use bk_stores::Stores;
 use std::alloc::Global;
 
 // Says these records behind the others, where they may come. A crash leaves what was durable, or some more of what was said.
@@ -71,10 +71,10 @@ fn say_lasting<D: Device>(
     ensures cause { HasCause D.disk_faults D.tell_faults dev.old dev.new (IsErrOf result StoreError.Fault) }
 {
     say_all(alloc, dev, store, records)?;
-    if lasting {
-        store.flush(alloc, dev)?;
+    if !lasting {
+        return Ok(());
     }
-    Ok(())
+    store.flush(alloc, dev)
 }
 
 /// Says these records behind those of the database at this place, whose store is open, where they may come; all that it has said is durable then where it is to last. A crash leaves the others, and of it what was
@@ -86,7 +86,7 @@ pub(crate) fn say_on<D: Device>(
     at: usize,
     records: &[Rec],
     lasting: bool,
-) -> Result<(), StoresError>
+) -> Result<(), Trouble>
     requires ready { IsReady stores.old }
     requires opened { IsOpenAt stores.old.slots at }
     requires limits { AllByRecursion (λ (r : Recs). KeepsLimits r.body) records.now }
@@ -101,11 +101,11 @@ pub(crate) fn say_on<D: Device>(
     ensures crash { D.tells → (tolds : List Told) (told : Told) (next : List Logged) → AreStores (D.disk dev.old) stores.old tolds → slice_get tolds at ≡ Some told → MaySayAll told next records.now
         → Effect IsOurs (LeavesStores (fixed_of stores.old.master.record) (sealed_at stores.old tolds) (set tolds at (telling told next))) (D.disk dev.old) (D.disk dev.new) }
     ensures touches { D.tells → TouchesOurs (D.disk dev.old) (D.disk dev.new) }
-    ensures trouble { IfErr result IsTrouble }
-    ensures cause { HasCause D.disk_faults D.tell_faults dev.old dev.new (IsErrOf result StoresError.Fault) }
+    ensures trouble { IfErr result IsPassing }
+    ensures cause { HasCause D.disk_faults D.tell_faults dev.old dev.new (IsErrOf result Trouble.Fault) }
 {
     let Some(mut store) = stores.take(at) else {
-        return Err(StoresError::NoMemory);
+        return Err(Trouble::NoMemory);
     };
     let said = say_lasting(alloc, dev, &mut store, records, lasting);
     stores.give(at, store);

@@ -15,13 +15,12 @@ ghost use Rattle.bk_hosting.specs.Loading.{says_checkpoint};
 
 use crate::hosting::State;
 use crate::making::first_state;
-use bk_device::Device;
+use bk_device::{Device, Trouble};
 use bk_ids::{Lsn, Sequence};
 use bk_points::{Points, read_points};
 use bk_reading::Unread;
 use bk_record::{BodyRef, Skimmed, skim_at};
 use bk_store::Store;
-use bk_stores::StoresError;
 use bk_world::FileSpec;
 use std::alloc::Global;
 
@@ -41,20 +40,19 @@ fn reaches<D: Device>(
     dev: &mut D,
     store: &Store,
     number: Lsn,
-) -> Result<bool, StoresError>
+) -> Result<bool, Trouble>
     requires sealed { IsSealed store.now }
     requires standing { D.tells → Standing (D.disk dev.old) store.now.paged }
     ensures is { D.tells → (told : Told) → IsStore (D.disk dev.old) store.now told → IfOk result (λ b. b ≡ has_checkpoint number told.records) }
     ensures effect { D.tells → ChangesNothing (D.disk dev.old) (D.disk dev.new) }
-    ensures broken { IsErrOf result StoresError.Broken → ⊥ }
-    ensures not_an_instance { IsErrOf result StoresError.NotAnInstance → ⊥ }
-    ensures cause { HasCause D.disk_faults D.tell_faults dev.old dev.new (IsErrOf result StoresError.Fault) }
+    ensures broken { IsErrOf result Trouble.Broken → ⊥ }
+    ensures cause { HasCause D.disk_faults D.tell_faults dev.old dev.new (IsErrOf result Trouble.Fault) }
 {
     if number == 0 || store.end() <= number {
         return Ok(false);
     }
     if number < store.kept() {
-        return Err(StoresError::NoMemory);
+        return Err(Trouble::NoMemory);
     }
     let bytes = store.log_bytes(alloc, dev, number, number + 1)?;
     Ok(is_checkpoint(&bytes))
@@ -65,20 +63,19 @@ pub(crate) fn noted_points(
     alloc: Global,
     note: &[u8],
     files: &[FileSpec],
-) -> Result<Points, StoresError>
+) -> Result<Points, Trouble>
     ensures points { (points : KeptPoints) → IsNoteOf note.now files.now points → IfOk result (λ p. p ≡ points) }
-    ensures broken { IsErrOf result StoresError.Broken → (points : KeptPoints) → IsNoteOf note.now files.now points → ⊥ }
-    ensures no_fault { IsErrOf result StoresError.Fault → ⊥ }
-    ensures not_an_instance { IsErrOf result StoresError.NotAnInstance → ⊥ }
+    ensures broken { IsErrOf result Trouble.Broken → (points : KeptPoints) → IsNoteOf note.now files.now points → ⊥ }
+    ensures no_fault { IsErrOf result Trouble.Fault → ⊥ }
 {
     if note.is_empty() {
         return Ok(first_state(alloc, files)?.points);
     }
     match read_points(alloc, note) {
         Ok((points, rest)) if rest.is_empty() => Ok(points),
-        Ok(_) => Err(StoresError::Broken),
-        Err(Unread::Unspelled) => Err(StoresError::Broken),
-        Err(Unread::NoMemory) => Err(StoresError::NoMemory),
+        Ok(_) => Err(Trouble::Broken),
+        Err(Unread::Unspelled) => Err(Trouble::Broken),
+        Err(Unread::NoMemory) => Err(Trouble::NoMemory),
     }
 }
 
@@ -99,14 +96,13 @@ pub(crate) fn read_state<D: Device>(
     alloc: Global,
     dev: &mut D,
     store: &Store,
-) -> Result<State, StoresError>
+) -> Result<State, Trouble>
     requires sealed { IsSealed store.now }
     requires standing { D.tells → Standing (D.disk dev.old) store.now.paged }
     ensures state { D.tells → (told : Told) (h : Hosted) → IsStore (D.disk dev.old) store.now told → Tells told h → IfOk result (λ s. s ≡ record { points = folded h.points h.records; job = None; transactions = []; known = None }) }
     ensures effect { D.tells → ChangesNothing (D.disk dev.old) (D.disk dev.new) }
-    ensures broken { D.tells → IsErrOf result StoresError.Broken → (told : Told) (h : Hosted) → IsStore (D.disk dev.old) store.now told → Tells told h → ⊥ }
-    ensures not_an_instance { IsErrOf result StoresError.NotAnInstance → ⊥ }
-    ensures cause { HasCause D.disk_faults D.tell_faults dev.old dev.new (IsErrOf result StoresError.Fault) }
+    ensures broken { D.tells → IsErrOf result Trouble.Broken → (told : Told) (h : Hosted) → IsStore (D.disk dev.old) store.now told → Tells told h → ⊥ }
+    ensures cause { HasCause D.disk_faults D.tell_faults dev.old dev.new (IsErrOf result Trouble.Fault) }
 {
     let mut points = noted_points(alloc, store.note(), store.spec().storage.files.as_slice())?;
     let reached = reaches(alloc, dev, store, points.next_checkpoint)?;

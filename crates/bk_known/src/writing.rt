@@ -20,8 +20,7 @@ fn append_family(out: &mut Vec<u8>, family: Guid) -> Result<(), AllocError>
     ensures ok { OnOk result (out.new.items ≡ out.old.items ++ guid_bytes family) }
     ensures fits { OnOk result (IsGuid family) }
 {
-    append_guid(out, family)?;
-    Ok(())
+    append_guid(out, family)
 }
 
 fn append_branch(out: &mut Vec<u8>, branch: Branch) -> Result<(), AllocError>
@@ -29,8 +28,7 @@ fn append_branch(out: &mut Vec<u8>, branch: Branch) -> Result<(), AllocError>
     ensures fits { OnOk result (IsBranch branch) }
 {
     append_guid(out, branch.guid)?;
-    append_u64(out, branch.start)?;
-    Ok(())
+    append_u64(out, branch.start)
 }
 
 fn append_path(out: &mut Vec<u8>, path: &[Branch]) -> Result<(), AllocError>
@@ -51,8 +49,7 @@ fn append_table(out: &mut Vec<u8>, table: &TableSpec) -> Result<(), AllocError>
 {
     append_u32(out, table.number)?;
     append_name(out, &table.name)?;
-    append_u8(out, table.group)?;
-    Ok(())
+    append_u8(out, table.group)
 }
 
 fn append_tables(out: &mut Vec<u8>, tables: &[TableSpec]) -> Result<(), AllocError>
@@ -76,8 +73,7 @@ fn append_database(out: &mut Vec<u8>, spec: &DatabaseSpec) -> Result<(), AllocEr
     append_name(out, &spec.name)?;
     append_family(out, spec.family)?;
     append_path(out, spec.path.as_slice())?;
-    append_storage(out, &spec.storage)?;
-    Ok(())
+    append_storage(out, &spec.storage)
 }
 
 fn append_as_of(out: &mut Vec<u8>, as_of: &AsOf) -> Result<(), AllocError>
@@ -88,8 +84,7 @@ fn append_as_of(out: &mut Vec<u8>, as_of: &AsOf) -> Result<(), AllocError>
     append_u64(out, as_of.from)?;
     append_tables(out, as_of.tables.as_slice())?;
     append_model(out, as_of.model)?;
-    append_u64(out, as_of.time)?;
-    Ok(())
+    append_u64(out, as_of.time)
 }
 
 fn append_known(out: &mut Vec<u8>, known: &Known) -> Result<(), AllocError>
@@ -98,8 +93,7 @@ fn append_known(out: &mut Vec<u8>, known: &Known) -> Result<(), AllocError>
     ensures fits { OnOk result (IsKnown known.now) }
 {
     append_database(out, &known.spec)?;
-    append_as_of(out, &known.as_of)?;
-    Ok(())
+    append_as_of(out, &known.as_of)
 }
 
 /// The bytes of a note: what is kept of a database, with at most 8 groups, 16 data files, 64 branches and 64 tables, and the note of the layer above behind it. The first

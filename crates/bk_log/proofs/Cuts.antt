@@ -1,6 +1,6 @@
 -- What moving the front of a log did to the device: a control record that leaves segments out was put, and they were removed.
 use Rattle.std.proofs.Common.{◌≡◌, ◌⊎◌, ◌≤◌, ◌<◌, ℕ, zero, suc, Bool, ◌+◌, ◌-◌, List, [], ◌∷◌, ◌++◌, length, take, drop, Some, None, refl, inl, inr, sym, ap, subst, ◌∙◌, arith}
-use Rattle.std.specs.Prelude.{slice_get, string_bytes}
+use Rattle.std.specs.Prelude.{slice_get, string_bytes, OnOk, Result, Ok, Err}
 use Rattle.std.proofs.lemmas.List.{drop_at, drop-drop, length-drop}
 use Rattle.std.proofs.lemmas.Option.{slice_get_within}
 use Rattle.bk_control.specs.Control.{IsControl, control_kept, Kept as KeptControl}
@@ -331,6 +331,11 @@ least_kept old new to count rest none same i s low there =
 pub least_cut : (old new : List Segment) (to count : ℕ) → ((i n : ℕ) → count < i → BeginsAt old i n → to < n) → new ≡ drop count old → IsFirstAt new to
 least_cut old new to count rest same i s low there =
     rest (count + i) s.first (omega (arith, low)) (s, get_dropped old count i (count + i) s refl (sym (ap (λ (xs : List Segment). slice_get xs i) same) ∙ there), refl)
+
+-- and the segments before its first are gone
+pub gone_cut : {T E : Type 0} (r : Result T E) (Gone : ℕ → Type 0) (old front count : ℕ) → OnOk r (front ≡ old + count) → OnOk r ((n : ℕ) → old ≤ n → n < old + count → Gone n) → OnOk r ((n : ℕ) → old ≤ n → n < front → Gone n)
+gone_cut (Ok x) Gone old front count same gone = λ n low high. gone n low (omega (arith, same, high))
+gone_cut (Err e) Gone old front count same gone = tt
 
 -- which files opening a log touches
 pub load_touches : (db : ℕ) (head : Head) (a b c : Disk) → ChangesNothing a b → Effect (IsBeside db head) (λ _. Unit {0}) b c → Effect (IsOwn db) (λ _. Unit {0}) a c

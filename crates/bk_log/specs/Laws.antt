@@ -67,11 +67,6 @@ log_left {disk = disk} {log = log} image is mine =
     (ap control_of (control_there is (image (control_file log.db)) (mine (control_file log.db) (inl refl))) ∙ control_is is) is.reads
     (λ n low high. segment_left log disk image n is low high (mine (segment_file log.db n) (inr (n, refl))))
 
--- the files are the log
-pub log_files : {disk : Disk} {log : Kept} → IsLog disk log → LogIs disk.files log.db (value_of disk.files log)
-log_files {disk = disk} {log = log} is =
-    log_is disk.files log.db log.head log.note log.control.content log.stored (control_is is) is.reads is.sound is.begun is.run is.inside is.small
-
 -- records may wait
 pub log_waits : {disk : Disk} {log : Kept} (waiting : List Rec) (end bytes flushes : ℕ) → IsLog disk log → IsLog disk (record log { waiting = waiting; end = end; spare_bytes = bytes; spare_flushes = flushes })
 log_waits waiting end bytes flushes is = record {

@@ -79,12 +79,10 @@ impl Model for Log {
 
 impl Log {
     /// Opens the log of a database, of which what counts is durable (`settle`), and reads the bytes of its records, each segment in
-    /// one read. Segments that no longer count, and one that was begun behind the last, are removed. Nothing else is changed, and
-    /// nothing at all where none of these is there.
+    /// one read. Segments that no longer count, and one that was begun behind the last, are removed. Nothing else is changed.
     ///
-    /// `Foreign` is answered exactly where the files are no log: where the control file holds no control record, where one of
-    /// the segments that it names holds no blob, or where they hold anything but records whose numbers follow each other. Then
-    /// nothing is changed.
+    /// `Foreign` is answered exactly where there is no control record, where a segment that it names holds no blob, or where
+    /// they hold anything but records whose numbers follow each other. Then nothing is changed.
     pub fn read<D: Device>(alloc: Global, dev: &mut D, db: u32) -> Result<(Log, LogBytes), LogError>
         ensures db { IfOk result (λ x. x.0.db ≡ db) }
         ensures failed { IfOk result (λ x. x.0.failed ≡ false) }
@@ -436,8 +434,7 @@ impl Log {
     {
         let room = self.spare_flushes.checked_add(1).ok_or(AllocError)?;
         if self.is_full() {
-            self.grow(alloc, dev, room)?;
-            return Ok(());
+            return self.grow(alloc, dev, room);
         }
         self.gate.reserve(room)?;
         Ok(())
@@ -594,11 +591,9 @@ impl Log {
     {
         let count = count_below(&self.segments, to);
         if count == 0 {
-            self.move_kept(dev, to)?;
-            return Ok(());
+            return self.move_kept(dev, to);
         }
-        self.cut(dev, to, count)?;
-        Ok(())
+        self.cut(dev, to, count)
     }
 
     // Moves the kept point within the first segment.

@@ -51,10 +51,9 @@ pub fn closings_are_cut_in_whole_worlds()
         → Leaves old (outcomes ++ closed_by acts ∷ []) least left → IsSound left }
 {}
 
-/// Let a run from a sound world and its closing be cut between two acts. The world at the cut is sound, and what is open in it was
-/// open before the statement that is cut, or is of that statement. Where nothing is open in it, a crash may leave just this world,
-/// with no session and whatever counter within the bounds. For any fronts of its logs behind which only what was open is lost, a
-/// crash may leave a world in which they are settled.
+/// Let a run from a sound world and its closing be cut between two acts. The world there is sound, and what is open in it was open
+/// before the statement that is cut, or is of it. Where nothing is open, a crash may leave just this world, with no session and
+/// whatever counter within the bounds; or one with fronts of its logs settled, behind which only what was open is lost.
 pub fn closings_are_cut_between_acts()
     ensures sound { (old : World) (statements : List ScriptEntry) (moments : List ℕ) (outcomes : List Outcome) (acts : List Act) (done k : ℕ)
         → IsSound old → IsRun old statements moments outcomes → AreClosing (behind_all old outcomes) acts
@@ -79,8 +78,8 @@ pub fn closings_are_cut_between_acts()
 {}
 
 /// A run is closed rollback by rollback. While a transaction is open in a sound world, just one is the first to be rolled back: in
-/// the first database that has one of the least session. That may be done, and leaves a sound world in which one less is open.
-/// Where none is open the run is closed once no backup runs any more, and what closes starts none. Behind a front of a closing its rest closes the run.
+/// the first database that has one of the least session. That leaves a sound world in which one less is open. Where none is open
+/// the run is closed once no backup runs any more. Behind a front of a closing its rest closes the run.
 pub fn runs_are_closed_one_by_one()
     ensures comes { (w : World) → IsSound w → AllByRecursion (λ (db : Database). db.transactions ≡ []) w.databases ⊎ ((held : Held) × IsFirst w held) }
     ensures found { (w : World) (session : ℕ) (held : Held) → held_in w.databases session ≡ Some held

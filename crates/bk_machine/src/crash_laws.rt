@@ -59,10 +59,9 @@ pub fn runs_are_cut_in_whole_worlds()
         × AllZip (λ (now new : Database). now.status ≡ Online → log_of left.history new ≡ settled (kept now)) cut.databases left.databases }
 {}
 
-/// Let a run from a sound world be cut between two acts. The world at the cut is sound, and what is open in it was open before the
-/// statement that is cut, or is of that statement. Where nothing is open in it, a crash of the run may leave just this world, with
-/// no session and whatever counter within the bounds. For any fronts of its logs behind which only what was open is lost, a crash
-/// may leave a world in which they are settled.
+/// Let a run from a sound world be cut between two acts. The world there is sound, and what is open in it was open before the
+/// statement that is cut, or is of it. Where nothing is open, a crash may leave just this world, with no session and whatever
+/// counter within the bounds; or one with fronts of its logs settled, behind which only what was open is lost.
 pub fn runs_are_cut_between_acts()
     ensures sound { (old : World) (statements : List ScriptEntry) (moments : List ℕ) (outcomes : List Outcome) (done k : ℕ)
         → IsSound old → IsRun old statements moments outcomes → IsSound (cut_between old outcomes done k) }

@@ -1,3 +1,4 @@
 pub mod Laws
 pub mod Master
 pub mod Spelling
+pub mod Troubles

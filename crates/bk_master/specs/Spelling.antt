@@ -1,6 +1,6 @@
--- How an instance's record is spelled: its number and the counter of GUIDs in eight bytes each; the path of the medium that is being made behind a length of two bytes, 0 where none is; the GUID of
--- the set that is being staged behind a byte of 1, or a byte of 0 where none is; how many sets are being copied beside the sessions in two, and their GUIDs; the number of the next store in four; how many databases there are in two, and of each the number of its store in four and in one byte whether it is stored, 1 or 0; and how many stores are being made or
--- removed in two, and of each its number in four, how many data files it has in two, and their paths, each behind a length of two. All numbers have the lowest byte first, and nothing stands behind them.
+-- How an instance's record is spelled, field behind field: its number, its counter, the medium that is being made, the set that is being staged, the sets that are being copied beside the sessions, the
+-- number of the next store, the databases, and the stores that are being made or removed. A list or a text stands behind its length in two bytes; all numbers have the lowest byte first, and nothing
+-- stands behind them.
 use Rattle.std.specs.Prelude.{◌≤◌, ◌<◌, ◌^◌, ◌==◌, ℕ, zero, suc, Bool, true, false, List, [], ◌∷◌, ◌++◌, length, Option, Some, None, unwrap_or, if◌then◌else◌}
 use Rattle.std.specs.List.{AllByRecursion, flat_map}
 use Rattle.bk_bytes.specs.Field.{bytes_of}
@@ -84,12 +84,14 @@ abbrev pub flag : Bool → ℕ
 flag true = 1
 flag false = 0
 
+-- its store's number, and whether it is stored, 1 or 0
 abbrev pub entry_bytes : Entry → List ℕ
 entry_bytes e = bytes_of 4 e.store ++ bytes_of 1 (flag e.is_stored)
 
 abbrev pub paths_bytes : List (List ℕ) → List ℕ
 paths_bytes paths = bytes_of 2 (length paths) ++ flat_map text_bytes paths
 
+-- its number, and the paths of its data files
 abbrev pub unfinished_bytes : Unfinished → List ℕ
 unfinished_bytes u = bytes_of 4 u.store ++ paths_bytes u.paths
 

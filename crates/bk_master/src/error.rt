@@ -1,8 +1,9 @@
 // Why a call on an instance's own files gave nothing.
 ghost use Rattle.std.specs.Prelude.{◌≡◌};
+ghost use Rattle.bk_master.specs.Troubles.{FromMaster};
 ghost use Rattle.bk_master.specs.declared.error.MasterError.TheVariants.{Broken, Fault, NoMemory};
 
-use bk_device::Failed;
+use bk_device::{Failed, Trouble};
 use std::alloc::{AllocError, AllocFailed};
 use thiserror::Error;
 
@@ -44,5 +45,17 @@ impl<T: Drop> From<AllocFailed<T>> for MasterError {
 
     fn from(_: AllocFailed<T>) -> MasterError {
         MasterError::NoMemory
+    }
+}
+
+impl From<MasterError> for Trouble {
+    ghost from_gives = { FromMaster };
+
+    fn from(error: MasterError) -> Self {
+        match error {
+            MasterError::NotAnInstance | MasterError::Broken => Trouble::Broken,
+            MasterError::Fault => Trouble::Fault,
+            MasterError::NoMemory => Trouble::NoMemory,
+        }
     }
 }

@@ -55,6 +55,5 @@ pub fn mark_made<D: Device>(dev: &mut D) -> Result<(), Failed>
     ensures cause { HasCause D.disk_faults D.tell_faults dev.old dev.new (IsErr result) }
 {
     dev.write("sqlbak.made", 0, &[])?;
-    dev.sync("sqlbak.made")?;
-    Ok(())
+    dev.sync("sqlbak.made")
 }

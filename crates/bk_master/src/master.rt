@@ -56,7 +56,7 @@ fn first_record(alloc: Global, number: u64) -> Record
 }
 
 impl Master {
-    /// Opens the own files of an instance. Where the instance isn't made it is made, with this number, a counter of 1 and no database, where nothing is made or staged; `sqlbak.made` is written last, so a crash leaves an
+    /// Opens the own files of an instance. Where it isn't made it is made, with this number, a counter of 1 and no database; `sqlbak.made` is written last, so a crash leaves an
     /// instance that isn't made or one that is whole. Where it is made nothing is changed.
     ///
     /// `NotAnInstance` is answered exactly where it is made and the control file holds no control, `Broken` only where the control holds no record. `NoMemory` may come after files were

@@ -30,19 +30,17 @@ fn append_staging(out: &mut Vec<u8>, staging: Option<Guid>) -> Result<(), AllocE
     match staging {
         Some(set) => {
             append_u8(out, 1)?;
-            append_guid(out, set)?;
+            append_guid(out, set)
         }
-        None => append_u8(out, 0)?,
+        None => append_u8(out, 0),
     }
-    Ok(())
 }
 
 fn append_set(out: &mut Vec<u8>, set: Guid) -> Result<(), AllocError>
     ensures ok { OnOk result (out.new.items ≡ out.old.items ++ guid_bytes set) }
     ensures fits { OnOk result (IsGuid set) }
 {
-    append_guid(out, set)?;
-    Ok(())
+    append_guid(out, set)
 }
 
 fn append_copying(out: &mut Vec<u8>, sets: &[Guid]) -> Result<(), AllocError>
@@ -66,8 +64,7 @@ fn append_own(out: &mut Vec<u8>, own: &Own) -> Result<(), AllocError>
     append_u64(out, own.counter)?;
     append_path(out, &own.making)?;
     append_staging(out, own.staging)?;
-    append_copying(out, own.copying.as_slice())?;
-    Ok(())
+    append_copying(out, own.copying.as_slice())
 }
 
 fn append_entry(out: &mut Vec<u8>, entry: &Entry) -> Result<(), AllocError>
@@ -75,8 +72,7 @@ fn append_entry(out: &mut Vec<u8>, entry: &Entry) -> Result<(), AllocError>
     ensures fits { OnOk result (IsEntry entry.now) }
 {
     append_u32(out, entry.store)?;
-    append_u8(out, u8::from(entry.is_stored))?;
-    Ok(())
+    append_u8(out, u8::from(entry.is_stored))
 }
 
 fn append_entries(out: &mut Vec<u8>, entries: &[Entry]) -> Result<(), AllocError>
@@ -118,8 +114,7 @@ fn append_unfinished(out: &mut Vec<u8>, store: &Unfinished) -> Result<(), AllocE
     ensures fits { OnOk result (IsUnfinished store.now) }
 {
     append_u32(out, store.store)?;
-    append_paths(out, store.paths.as_slice())?;
-    Ok(())
+    append_paths(out, store.paths.as_slice())
 }
 
 fn append_all_unfinished(out: &mut Vec<u8>, stores: &[Unfinished]) -> Result<(), AllocError>

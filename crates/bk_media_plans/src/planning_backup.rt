@@ -60,8 +60,7 @@ fn push_draw(
     ensures { OnOk result (parts.new.items ≡ parts.old.items ++ draws_part sets disk.now ∷ []) }
 {
     let part = drawing(alloc, disk, sets)?;
-    push(parts, part)?;
-    Ok(())
+    push(parts, part)
 }
 
 // One part more: the database marks a checkpoint at its end.
@@ -74,8 +73,7 @@ fn push_mark(
     ensures { OnOk result (MarksOne database.now time parts.old.items parts.new.items) }
 {
     let act = marked(alloc, database, time)?;
-    push(parts, Part::Stored(act))?;
-    Ok(())
+    push(parts, Part::Stored(act))
 }
 
 // The act by which a database says the stamp of a set, behind a checkpoint at its end.
@@ -111,8 +109,7 @@ fn push_stamp(
     ensures { OnOk result (StampsOne database.now set time parts.old.items parts.new.items) }
 {
     let act = stamp_act(alloc, database, set, time)?;
-    push(parts, Part::Stored(act))?;
-    Ok(())
+    push(parts, Part::Stored(act))
 }
 
 // One part more: the set of a job is sealed on its medium. `Unfit` comes only where the database or the job fits no set.
@@ -184,8 +181,7 @@ fn push_base(
     let name = database.name.copy(alloc)?;
     let last = database.shown.end() + 2;
     let header = set_header(alloc, database, job, last, job.start)?;
-    push(parts, Part::Stored(StoredAct::Based { name, header }))?;
-    Ok(())
+    push(parts, Part::Stored(StoredAct::Based { name, header }))
 }
 
 // The parts of a backup of a database by which the set of a job is made at once. `Unfit` comes only where the database or the job fits no set.
@@ -251,8 +247,7 @@ fn push_job(
 {
     let name = database.name.copy(alloc)?;
     let job = job.copy(alloc)?;
-    push(parts, Part::JobBegun { name, job })?;
-    Ok(())
+    push(parts, Part::JobBegun { name, job })
 }
 
 // The plan of a backup that only starts, behind which the session's next one doesn't.

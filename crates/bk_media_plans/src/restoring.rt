@@ -172,8 +172,7 @@ fn check_room(
         header.path.as_slice().len() >= MOST_BRANCHES,
         Rule::PathFull,
     )?;
-    limit(used_up(header.last) || used_up(kept.counter))?;
-    Ok(())
+    limit(used_up(header.last) || used_up(kept.counter))
 }
 
 // The database of this name, if there is one.

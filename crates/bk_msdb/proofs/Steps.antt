@@ -1,6 +1,6 @@
 -- What reading the file, making it and adding a row come to.
 use Rattle.std.proofs.Common.{◌≡◌, ◌⊎◌, ◌≤◌, ◌+◌, ℕ, Bool, true, false, List, [], ◌∷◌, ◌++◌, length, map, take, max, Option, Some, None, refl, inl, inr, sym, ap, subst, ◌∙◌, arith, lit<}
-use Rattle.std.specs.Prelude.{slice_get}
+use Rattle.std.specs.Prelude.{slice_get, Result, Ok, Err, OnOk}
 use Rattle.std.proofs.lemmas.List.{length-map, take_all, take_more}
 use Rattle.std.proofs.lemmas.Option.{get_or_from_slice_get, slice_get_within}
 use Rattle.bk_device.specs.Calls.{contents, written, LeavesSame, LeavesWrite, CallsOn, ChangesNothing}
@@ -18,6 +18,11 @@ use Rattle.bk_msdb.specs.Laws.{row_shown, shows_same, with_blobs_behind}
 use Rattle.bk_msdb.specs.Msdb.{Adds, GrowsBy, IsReady, IsUnmade, Shows, empty_file, msdb_file, tables_of, with_blob, with_blobs}
 use Rattle.bk_msdb.specs.Rows.{Tables, no_rows, with_row}
 use Rattle.bk_msdb.specs.Spelling.{read_row}
+
+-- what follows from two facts of a call that succeeded
+pub on_ok_both : {T E P Q R : Type 0} (r : Result T E) → (P → Q → R) → OnOk r P → OnOk r Q → OnOk r R
+on_ok_both (Ok x) f p q = f p q
+on_ok_both (Err e) f p q = tt
 
 -- ---- making the file
 
@@ -194,10 +199,6 @@ spans_there {b = b} gate name is call are = are ∙ ap (λ (file : Option (List 
 
 pub gate_there : {a b : Disk} (gate : KeptGate) (name : List ℕ) → gate.name ≡ name → ChangesNothing a b → IsGateFile (contents (a.files name)) → IsGateFile (contents (b.files gate.name))
 gate_there {b = b} gate name is call at = let Gate : Option (List ℕ) → Type 0 = λ file. IsGateFile (contents file) in subst Gate (sym (ap b.files is ∙ call.files name)) at
-
--- the rows in the file of a gate
-pub read_shows : {a b : Disk} (gate : KeptGate) (tables : Tables) → gate.name ≡ msdb_file → ChangesNothing a b → tables_of (b.files gate.name) ≡ tables → Shows a.files tables
-read_shows {a = a} {b = b} gate tables is call are = ap tables_of (sym (ap b.files is ∙ call.files msdb_file)) ∙ are
 
 -- where the file is no gate file, its gate is still to be made
 pub begun_ready : {a b : Disk} (gate : KeptGate) → gate.name ≡ msdb_file → IsOpened empty_file gate → ChangesNothing a b → IsDurable a msdb_file → (IsGateFile (contents (a.files msdb_file)) → ⊥) → IsUnmade b gate

@@ -1,7 +1,5 @@
--- How a row is spelled: its table in one byte, 1 backupset, 2 restorehistory, 3 logmarkhistory, and then its fields. Numbers have the lowest byte first, a text stands behind its length in two bytes.
--- Of a backup: the position in four bytes, and the header as in a set. Of a restore: the time in eight bytes, the database, the set's GUID, and in one byte each what was restored, whether REPLACE was
--- given and whether RECOVERY was asked for; then a byte of 0, or a byte of 1 and the text of the stop. Of a mark: the database, the mark's name and its description, a text without a byte where there is
--- none, and in eight bytes each the number of the commit record and the time. Nothing stands behind them.
+-- How a row is spelled: its table in one byte, 1 backupset, 2 restorehistory, 3 logmarkhistory, and then its fields. Numbers have the lowest byte first, a text stands behind its length in two bytes, and
+-- nothing stands behind them.
 use Rattle.std.specs.Prelude.{◌≤◌, ◌<◌, ◌^◌, ◌==◌, ℕ, zero, suc, Bool, true, false, List, [], ◌∷◌, ◌++◌, length, Option, Some, None, unwrap_or, if◌then◌else◌}
 use Rattle.bk_bytes.specs.Field.{bytes_of}
 use Rattle.bk_bytes.specs.Codec.{◌>>=◌, Codec, IsString, number, number_at, string, followed, converted}
@@ -67,6 +65,7 @@ IsRow (Mark row) = IsMark row
 
 -- ---- its spelling
 
+-- its position, and the header as in a set
 abbrev pub backup_bytes : BackupRow → List ℕ
 backup_bytes row = bytes_of 4 row.position ++ spelling row.header
 
@@ -85,6 +84,7 @@ abbrev pub stop_bytes : Option (List ℕ) → List ℕ
 stop_bytes None = bytes_of 1 0
 stop_bytes (Some stop) = bytes_of 1 1 ++ text_bytes stop
 
+-- its time, its database, its set, what was restored, whether REPLACE was given, whether RECOVERY was asked for, and its stop
 abbrev pub restore_bytes : RestoreRow → List ℕ
 restore_bytes row =
     bytes_of 8 row.time ++ (text_bytes row.database ++ (guid_bytes row.set ++ (bytes_of 1 (kind_worth row.kind)
@@ -94,6 +94,7 @@ restore_bytes row =
 abbrev pub description_bytes : Option (List ℕ) → List ℕ
 description_bytes description = unwrap_or description []
 
+-- its database, its name and its description, the number of the commit record, and the time
 abbrev pub mark_bytes : MarkRow → List ℕ
 mark_bytes row =
     text_bytes row.database ++ (text_bytes row.mark.name ++ (text_bytes (description_bytes row.mark.description) ++ (bytes_of 8 row.lsn ++ bytes_of 8 row.time)))

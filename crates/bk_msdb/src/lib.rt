@@ -2,7 +2,6 @@
 #![tactic(auto)]
 
 mod adding;
-mod error;
 mod law;
 mod listing;
 mod making;
@@ -12,7 +11,6 @@ mod tables;
 mod writing;
 
 pub use adding::add_row;
-pub use error::MsdbError;
 pub use law::row_law;
 pub use listing::read_rows;
 pub use tables::Tables;

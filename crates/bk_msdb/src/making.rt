@@ -1,15 +1,15 @@
 // Making the file, and adding a blob to it.
-ghost use Rattle.std.specs.Prelude.{◌≡◌, ◌≤◌, ◌⊎◌, ◌∷◌, ◌++◌, [], Some, None, false, IfOk, OnOk, IsErr, IsErrOf};
+ghost use Rattle.std.specs.Prelude.{◌≡◌, ◌≤◌, ◌⊎◌, ◌∷◌, ◌++◌, [], Some, None, false, IfErr, IfOk, OnOk, IsErr, IsErrOf};
 ghost use Rattle.bk_device.specs.Counts.{HasCause};
 ghost use Rattle.bk_device.specs.Disk.{IsDurable};
 ghost use Rattle.bk_device.specs.Effects.{Effect, IsName};
+ghost use Rattle.bk_device.specs.Troubles.{IsPassing};
 ghost use Rattle.bk_gate.specs.Blobs.{sealed};
 ghost use Rattle.bk_gate.specs.Gate.{IsGate};
 ghost use Rattle.bk_gate.specs.Opened.{IsOpened};
 ghost use Rattle.bk_msdb.specs.Msdb.{IsReady, empty_file};
 
-use crate::error::MsdbError;
-use bk_device::{Device, Failed, remove_durably, write_durably};
+use bk_device::{Device, Failed, Trouble, remove_durably, write_durably};
 use bk_gate::{Gate, GateError};
 use std::alloc::Global;
 
@@ -17,17 +17,18 @@ use std::alloc::Global;
 const EMPTY: [u8; 17] = *b"SQLBAKGATE000001\0";
 
 /// The gate of a file without blobs that is still to be made.
-pub fn unmade(alloc: Global, name: &str) -> Result<Gate, MsdbError>
+pub fn unmade(alloc: Global, name: &str) -> Result<Gate, Trouble>
     ensures opened { IfOk result (λ g. IsOpened empty_file g) }
     ensures name { IfOk result (λ g. g.name ≡ name.now) }
     ensures failed { IfOk result (λ g. g.failed ≡ false) }
-    ensures fault { IsErrOf result MsdbError.Fault → ⊥ }
+    ensures fault { IsErrOf result Trouble.Fault → ⊥ }
+    ensures trouble { IfErr result IsPassing }
 {
     match Gate::from_bytes(alloc, name, &EMPTY) {
         Ok(gate) => Ok(gate),
         Err(GateError::Foreign) => unreachable!(),
         Err(GateError::Fault) => unreachable!(),
-        Err(GateError::NoMemory) => Err(MsdbError::NoMemory),
+        Err(GateError::NoMemory) => Err(Trouble::NoMemory),
     }
 }
 
@@ -39,8 +40,7 @@ fn make<D: Device>(dev: &mut D, name: &str) -> Result<(), Failed>
     ensures cause { HasCause D.disk_faults D.tell_faults dev.old dev.new (IsErr result) }
 {
     remove_durably(dev, name)?;
-    write_durably(dev, name, 0, &EMPTY)?;
-    Ok(())
+    write_durably(dev, name, 0, &EMPTY)
 }
 
 // Makes the file of a gate, where it isn't made yet.
@@ -54,8 +54,7 @@ fn see_to_file<D: Device>(dev: &mut D, gate: &Gate, is_made: bool) -> Result<(),
     if is_made {
         return Ok(());
     }
-    make(dev, gate.name())?;
-    Ok(())
+    make(dev, gate.name())
 }
 
 /// Seals a blob in the file of a gate, which is made first where it isn't yet, by one place of the gate's spare. Takes no memory. A crash leaves the blobs that there were, or this one too.
@@ -79,6 +78,5 @@ pub fn seal_blob<D: Device>(
     ensures cause { HasCause D.disk_faults D.tell_faults dev.old dev.new (IsErr result) }
 {
     see_to_file(dev, gate, is_made)?;
-    gate.append_reserved(dev, bytes)?;
-    Ok(())
+    gate.append_reserved(dev, bytes)
 }

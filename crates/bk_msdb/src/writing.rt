@@ -21,8 +21,7 @@ fn append_name(out: &mut Vec<u8>, name: &Name) -> Result<(), AllocError>
     ensures fits { OnOk result (IsString 1 64 name.now) }
 {
     let text = name.as_str();
-    append_text(out, text.as_bytes())?;
-    Ok(())
+    append_text(out, text.as_bytes())
 }
 
 fn append_backup(alloc: Global, out: &mut Vec<u8>, row: &BackupRow) -> Result<(), AllocError>
@@ -31,8 +30,7 @@ fn append_backup(alloc: Global, out: &mut Vec<u8>, row: &BackupRow) -> Result<()
     ensures fits { OnOk result (IsBackup row.now) }
 {
     append_u32(out, row.position)?;
-    encode(alloc, &row.header, out)?;
-    Ok(())
+    encode(alloc, &row.header, out)
 }
 
 fn set_number(kind: SetKind) -> u8
@@ -65,11 +63,10 @@ fn append_stop(out: &mut Vec<u8>, stop: &Option<Text>) -> Result<(), AllocError>
         Some(stop) => {
             append_u8(out, 1)?;
             let text = stop.as_str();
-            append_text(out, text.as_bytes())?;
+            append_text(out, text.as_bytes())
         }
-        None => append_u8(out, 0)?,
+        None => append_u8(out, 0),
     }
-    Ok(())
 }
 
 // Whether REPLACE was given and RECOVERY asked for, and the stop.
@@ -80,16 +77,14 @@ fn append_ending(out: &mut Vec<u8>, row: &RestoreRow) -> Result<(), AllocError>
 {
     append_u8(out, u8::from(row.replace))?;
     append_u8(out, u8::from(row.recovery))?;
-    append_stop(out, &row.stop)?;
-    Ok(())
+    append_stop(out, &row.stop)
 }
 
 fn append_set(out: &mut Vec<u8>, set: Guid) -> Result<(), AllocError>
     ensures ok { OnOk result (out.new.items ≡ out.old.items ++ guid_bytes set) }
     ensures fits { OnOk result (IsGuid set) }
 {
-    append_guid(out, set)?;
-    Ok(())
+    append_guid(out, set)
 }
 
 fn append_restore(out: &mut Vec<u8>, row: &RestoreRow) -> Result<(), AllocError>
@@ -101,8 +96,7 @@ fn append_restore(out: &mut Vec<u8>, row: &RestoreRow) -> Result<(), AllocError>
     append_name(out, &row.database)?;
     append_set(out, row.set)?;
     append_u8(out, kind_number(row.kind))?;
-    append_ending(out, row)?;
-    Ok(())
+    append_ending(out, row)
 }
 
 fn append_description(
@@ -115,11 +109,10 @@ fn append_description(
     match description {
         Some(description) => {
             let text = description.as_str();
-            append_text(out, text.as_bytes())?;
+            append_text(out, text.as_bytes())
         }
-        None => append_text(out, &[])?,
+        None => append_text(out, &[]),
     }
-    Ok(())
 }
 
 fn append_mark(out: &mut Vec<u8>, row: &MarkRow) -> Result<(), AllocError>
@@ -130,8 +123,7 @@ fn append_mark(out: &mut Vec<u8>, row: &MarkRow) -> Result<(), AllocError>
     append_name(out, &row.mark.name)?;
     append_description(out, &row.mark.description)?;
     append_u64(out, row.lsn)?;
-    append_u64(out, row.time)?;
-    Ok(())
+    append_u64(out, row.time)
 }
 
 #[tactic(auto, unfolding(crate::specs::Spelling::row_bytes))]
@@ -143,18 +135,17 @@ fn append_row(alloc: Global, out: &mut Vec<u8>, row: &HistoryRow) -> Result<(), 
     match row {
         HistoryRow::Backup(row) => {
             append_u8(out, 1)?;
-            append_backup(alloc, out, row)?;
+            append_backup(alloc, out, row)
         }
         HistoryRow::Restore(row) => {
             append_u8(out, 2)?;
-            append_restore(out, row)?;
+            append_restore(out, row)
         }
         HistoryRow::Mark(row) => {
             append_u8(out, 3)?;
-            append_mark(out, row)?;
+            append_mark(out, row)
         }
     }
-    Ok(())
 }
 
 /// The bytes of a row.

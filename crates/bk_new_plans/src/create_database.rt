@@ -35,8 +35,7 @@ fn check_free(kept: &InstanceView<'_>, alloc: Global, storage: &Storage) -> Resu
     ensures left { IfOk result (λ u. checks.used_up kept.now.counter ≡ false) }
 {
     check_in_use(alloc, &kept.databases, storage)?;
-    limit(used_up(kept.counter))?;
-    Ok(())
+    limit(used_up(kept.counter))
 }
 
 // These files, filegroups and log, where they may be used.

@@ -4,7 +4,7 @@ use Rattle.std.specs.Prelude.{IsErrOf}
 use Rattle.bk_segments.specs.declared.error.LogError.{LogError}
 use Rattle.bk_segments.specs.declared.error.LogError.TheVariants as log
 use Rattle.bk_paged.specs.declared.error.PagedError.{PagedError}
-use Rattle.bk_paged.specs.declared.error.PagedError.TheVariants.{Foreign, Fault}
+use Rattle.bk_paged.specs.declared.error.PagedError.TheVariants.{Foreign}
 use Rattle.bk_paged.specs.Errors.{FromLog}
 
 -- it was this one
@@ -16,11 +16,6 @@ pub foreign_log : (e : LogError) (p : PagedError) → FromLog e p → p ≡ Fore
 foreign_log log.Foreign p from is = refl
 foreign_log log.Fault p from is = absurd cc
 foreign_log log.NoMemory p from is = absurd cc
-
-pub fault_log : (e : LogError) (p : PagedError) → FromLog e p → p ≡ Fault → e ≡ log.Fault
-fault_log log.Foreign p from is = absurd cc
-fault_log log.Fault p from is = refl
-fault_log log.NoMemory p from is = absurd cc
 
 -- an error is this one, whatever the call would have returned
 pub as_error : {T E : Type 0} {e d : E} → e ≡ d → IsErrOf {T = T} (Err e) d

@@ -181,9 +181,9 @@ fn open<R: Threads + Sync, D: Device>(
     Ok(Opened { paged, records })
 }
 
-/// Opens a database: makes durable what counts of its log, finishes a batch of pages that is sealed, brings the pages in memory to the end by the log from the latest checkpoint on, and undoes by
-/// durable records what is pending. Then each page lies in a frame. A crash leaves the records that there were, and perhaps some of those. Where nothing is to be finished or undone the files stay as
-/// they are.
+/// Opens a database: makes durable what counts of its log, finishes a sealed batch of pages, brings the pages in memory to the end
+/// by the log from the latest checkpoint on, and undoes by durable records what is pending. Then each page lies in a frame. A
+/// crash leaves the records that there were, and perhaps some of those. Without anything to finish or undo the files stay.
 ///
 /// `Foreign` is answered only where the files hold no database.
 pub fn load<R: Threads + Sync, D: Device>(

@@ -1,6 +1,6 @@
 -- Pages of a database as they are copied: each is as of the end.
-use Rattle.std.proofs.Common.{◌≡◌, ℕ, List, [], Result, Ok, Err, sym, subst, arith}
-use Rattle.std.specs.Prelude.{IfOk, OnOk, slice_index_or}
+use Rattle.std.proofs.Common.{◌≡◌, ℕ, List, [], sym, subst, arith}
+use Rattle.std.specs.Prelude.{slice_index_or}
 use Rattle.bk_device.specs.Disk.{Disk}
 use Rattle.bk_page.specs.Page.{sealed}
 use Rattle.bk_paths.specs.PageLaws.{page_last}
@@ -29,15 +29,3 @@ clean_stored p stood a at is there not_dirty =
     let stored = (is.recovers (sealed_count p) (omega arith)).pages at here in
     let last : IsPage stood.records (end_of stood.records) at (page_of old) = subst (IsPage stood.records (end_of stood.records) at) (sym (is.clean at here not_dirty)) (page_last stood.records (end_of stood.records) at (omega arith)) in
     subst (IsStored stood.records (end_of stood.records) at) (sym (side_shown p stood a is at)) (record { sound = stored.sound; place = stored.place; is_page = last })
-
--- what the calls that copy give
-
--- a fact that holds anyway
-pub anyway : {T E : Type 0} (r : Result T E) {P : Type 0} → P → OnOk r P
-anyway (Ok _) holds = holds
-anyway (Err _) holds = tt
-
--- a value is given, if there is one, of which the fact is known
-pub given : {T E : Type 0} (r : Result T E) (v : T) (P : T → Type 0) → IfOk r (λ x. x ≡ v) → P v → IfOk r P
-given (Ok x) v P same holds = subst P (sym same) holds
-given (Err _) v P same holds = tt

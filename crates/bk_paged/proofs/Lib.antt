@@ -2,6 +2,7 @@ mod Adding
 mod Batching
 mod Changing
 mod Copied
+mod Ends
 mod Fetching
 mod Made
 mod Noting
@@ -11,4 +12,3 @@ mod Saying
 mod Standing
 mod Told
 mod Writing
-mod Rooming

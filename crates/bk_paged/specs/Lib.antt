@@ -6,7 +6,6 @@ pub mod Pooled
 pub mod Errors
 pub mod Making
 pub mod Laws
-pub mod Reserved
 pub mod Named
 pub mod Leaving
 pub mod StandLaws

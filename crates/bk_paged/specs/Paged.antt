@@ -58,9 +58,8 @@ pub record IsLast (records : List Rec) (at : PageAt) (page : List ℕ) : Type 0 
   pub place : IsPlaced at page
   pub is_last : page_of page ≡ last_page at records
 
--- What is kept stands for a database. The durable records are in the log's files from the kept point on, and the others wait behind them. Each front of the records that has all durable
--- ones, as a crash may leave one, is recovered from the log and the pages in the files: these are as of some number from `since` on by the durable records alone. Each page in a frame is as of the
--- end, and so is each one in the files that lies in no dirty frame.
+-- What is kept stands for a database. Durable records are in the log's files from the kept point on, and the others wait behind them. Each front of the records with all durable ones is recovered from the log and the
+-- pages in the files, which are as of some number from `since` on. Each page in a frame is as of the end, and so is each one in the files that lies in no dirty frame.
 pub record IsPaged (disk : Disk) (p : Kept) (stood : Stood) : Type 0 where
   pub standing : Standing disk p
   pub files : p.facts.files ≡ stood.files

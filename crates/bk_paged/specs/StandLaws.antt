@@ -8,7 +8,7 @@ use Rattle.bk_facts.specs.declared.facts.DataFile.{DataFile}
 use Rattle.bk_facts.specs.declared.facts.Facts.{Facts}
 use Rattle.bk_facts.specs.Facts.{Notes}
 use Rattle.bk_ids.specs.declared.record.Rec.{Rec}
-use Rattle.bk_log.specs.Laws.{log_kept, log_reserved, log_waits}
+use Rattle.bk_log.specs.Laws.{log_kept, log_waits}
 use Rattle.bk_log.specs.Log.{IsLog, Kept as KeptLog}
 use Rattle.bk_pool.specs.Pool.{Pool}
 use Rattle.bk_segments.specs.Files.{IsOwn as IsOfLog}
@@ -22,7 +22,6 @@ use Rattle.bk_paged.specs.Leaving.{with_note}
 use Rattle.bk_paged.specs.Named.{own_keeps, side_keeps}
 use Rattle.bk_paged.specs.Names.{IsOwn, names_of}
 use Rattle.bk_paged.specs.Paged.{Kept, Standing, Touches}
-use Rattle.bk_paged.specs.Reserved.{with_room}
 
 -- what only the log was done to: it is another one, with these facts and this note
 pub standing-log : {P : Files → Type 0} (p : Kept) (log : KeptLog) (facts : Facts) (note : List ℕ) (failed : Bool) {a b : Disk} → Standing a p → Effect (IsOfLog p.log.db) P a b → IsLog b log → log.db ≡ p.log.db → Notes log.note facts note → facts.files ≡ p.facts.files → length note ≤ 30720
@@ -100,19 +99,6 @@ standing-waits p waiting end bytes flushes is = record {
 -- with one more record that waits
 pub standing-waiting : (p : Kept) (r : Rec) {a : Disk} → Standing a p → Standing a (with_waiting p r)
 standing-waiting p r is = standing-waits p (p.log.waiting ++ r ∷ []) (p.log.end + 1) p.log.spare_bytes p.log.spare_flushes is
-
--- with other room
-pub standing-room : (p : Kept) (spare bytes flushes : ℕ) {a : Disk} → Standing a p → Standing a (with_room p spare bytes flushes)
-standing-room p spare bytes flushes is = record {
-  logs = log_reserved bytes flushes spare is.logs;
-  side_name = is.side_name;
-  side_names = is.side_names;
-  sides = is.sides;
-  fresh = is.fresh;
-  noted = is.noted;
-  room = is.room;
-  different = is.different;
-}
 
 -- ---- which files a call touched
 

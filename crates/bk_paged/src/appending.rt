@@ -95,8 +95,7 @@ impl Paged {
         ensures cause { HasCause D.disk_faults D.tell_faults dev.old dev.new (IsErrOf result PagedError.Fault) }
     {
         self.flush(alloc, dev)?;
-        self.write_pages(dev)?;
-        Ok(())
+        self.write_pages(dev)
     }
 
     // The frame in which a page of a data file lies; it is read where it lies in none. Gives none only where a frame is dirty, and then changes nothing.
@@ -118,8 +117,7 @@ impl Paged {
         ensures effect { D.tells → ChangesNothing (D.disk dev.old) (D.disk dev.new) }
         ensures cause { HasCause D.disk_faults D.tell_faults dev.old dev.new (IsErrOf result PagedError.Fault) }
     {
-        let found = fetch(dev, &self.side, &mut self.pool, file, page)?;
-        Ok(found)
+        fetch(dev, &self.side, &mut self.pool, file, page)
     }
 
     // The same, but where every frame is dirty all records are made durable and all changed pages written first.

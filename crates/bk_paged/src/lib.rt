@@ -11,7 +11,6 @@ mod paged;
 mod parts;
 mod placing;
 mod removing;
-mod reserved;
 
 pub use error::PagedError;
 pub use fitting::may_make;

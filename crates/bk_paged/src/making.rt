@@ -48,8 +48,7 @@ fn make_file<D: Device>(
     ensures cause { HasCause D.disk_faults D.tell_faults dev.old dev.new (IsErr result) }
 {
     page_law();
-    side.make(dev, (i + 1) as u16, files[i].pages)?;
-    Ok(())
+    side.make(dev, (i + 1) as u16, files[i].pages)
 }
 
 // Makes all data files.

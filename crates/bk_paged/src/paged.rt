@@ -158,8 +158,7 @@ impl Paged {
         undoing_law();
         self.append_checkpoint(now)?;
         self.write_all(alloc, dev)?;
-        self.note_checkpoint(alloc, dev)?;
-        Ok(())
+        self.note_checkpoint(alloc, dev)
     }
 
     // Adds the record of a checkpoint, in memory alone.

@@ -96,8 +96,7 @@ fn add_frame<D: Device>(dev: &mut D, side: &mut Side, pool: &Pool, i: usize) -> 
     };
     let mut bytes = copy_frame(pool, i);
     seal_digest(&mut bytes);
-    side.add(dev, file, page, &bytes)?;
-    Ok(())
+    side.add(dev, file, page, &bytes)
 }
 
 // Adds the pages of all dirty frames to the batch.

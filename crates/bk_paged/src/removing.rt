@@ -96,8 +96,7 @@ fn find_facts<D: Device>(alloc: Global, dev: &mut D, db: u32) -> Result<Option<F
     let Some(log) = find_log(alloc, dev, db)? else {
         return Ok(None);
     };
-    let facts = facts_in(alloc, log.note())?;
-    Ok(facts)
+    facts_in(alloc, log.note())
 }
 
 // Removes the data files that the log of a database names, and its side file.
@@ -112,8 +111,7 @@ fn remove_named<D: Device>(alloc: Global, dev: &mut D, db: u32) -> Result<(), Pa
     let Some(facts) = find_facts(alloc, dev, db)? else {
         return Ok(());
     };
-    remove_pages(alloc, dev, db, facts.files.as_slice())?;
-    Ok(())
+    remove_pages(alloc, dev, db, facts.files.as_slice())
 }
 
 impl Paged {

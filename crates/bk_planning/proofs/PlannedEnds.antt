@@ -1,4 +1,4 @@
--- COMMIT and ROLLBACK as they are planned, and the acts by which transactions end.
+-- COMMIT and ROLLBACK as they are planned, and the act by which a transaction is rolled back.
 use Rattle.std.proofs.Common.{◌≡◌, ◌≤◌, ℕ, ◌+◌, ◌^◌, List, [], ◌∷◌, map, length, Option, None, Some, Ok, refl, sym, ◌∙◌, ap, subst, arith}
 use Rattle.std.proofs.lemmas.List.{length-map}
 use Rattle.bk_acts.specs.Meaning.{Spell}
@@ -35,14 +35,14 @@ use Rattle.bk_plans.specs.declared.parts.Plan.TheVariants.{Refused, Answered, Tu
 use Rattle.bk_planning.specs.Marking.{IsCommit, NotesMark, mark_part, marked_row}
 use Rattle.bk_world.specs.declared.msdb.MarkRow.{MarkRow}
 use Rattle.bk_plans.specs.SaidLaws.{done-said, plans-said, says-now}
-use Rattle.bk_plans.specs.UndoingLaws.{rollback-length, rollback-placed, settle-length, settle-placed}
+use Rattle.bk_plans.specs.UndoingLaws.{rollback-length, rollback-placed}
 use Rattle.bk_plans.specs.declared.parts.Plan.{Plan}
 use Rattle.bk_plans.specs.declared.refusal.Refusal.{Refusal}
 use Rattle.bk_planning.specs.Undoing.{Commits, SaysOf}
 use Rattle.bk_shown.specs.Shown.{pending_of}
 use Rattle.bk_shown.specs.declared.shown.Written.{Written}
 use Rattle.bk_world.specs.Pending.{Pending, pending}
-use Rattle.bk_world.specs.Says.{commit_said, rollback_said, settle_said}
+use Rattle.bk_world.specs.Says.{commit_said, rollback_said}
 use Rattle.bk_world.specs.declared.reply.Reply.TheVariants.{Done}
 use Rattle.bk_world.specs.declared.rule.Rule.TheVariants.{NoTransaction}
 use Rattle.bk_world.specs.declared.transaction.Open.{Open}
@@ -57,12 +57,6 @@ module _ (d : KeptDatabase) (stored : StoredAct) (records : List Rec) (written :
       let same : length (map pending_of written) ≡ length written = length-map written pending_of in
       record { writes = map pending_of written; are = are; says = says-now d (rollback_said t.begin (map pending_of written)) (without_begin d.transactions t.begin) stored records is spell; low = omega (arith, fits, same, low) }
 
-  pub says-settle : stored ≡ LoggedAct d.name [] records → Spell records d.shown.«end» (settle_said (map pending_of written)) → d.shown.«end» + length written ≤ 2 ^ 62 → SaysOf d settle_said [] stored
-  says-settle is spell low =
-      let fits : length (settle_said (map pending_of written)) ≡ length (map pending_of written) = settle-length (map pending_of written) in
-      let same : length (map pending_of written) ≡ length written = length-map written pending_of in
-      record { writes = map pending_of written; are = are; says = says-now d (settle_said (map pending_of written)) [] stored records is spell; low = omega (arith, fits, same, low) }
-
 module _ (w : World) (d : KeptDatabase) (stored : StoredAct) (named : database_named w.databases d.name ≡ Some (database_of d)) (shows : ShowsLog w.history d) where
   pub rollback-done : (t : Open) → SaysOf d (rollback_said t.begin) (without_begin d.transactions t.begin) stored → MayDo w (rolls_back w (record { database = database_of d; transaction = t }))
       → IsDone w stored (rolls_back w (record { database = database_of d; transaction = t }))
@@ -72,14 +66,6 @@ module _ (w : World) (d : KeptDatabase) (stored : StoredAct) (named : database_n
       subst (IsDone w stored) is
       (done-said w d (rollback_said t.begin says.writes) (without_begin d.transactions t.begin) stored says.says named shows (subst (MayDo w) (sym is) may) says.low
       (λ logs. rollback-placed d.files (log_of w.history (database_of d)) d.shown.«end» t.begin says.writes))
-
-  pub settle-done : SaysOf d settle_said [] stored → MayDo w (logged d.name (settle_said (pending (log_of w.history (database_of d)))) []) → IsDone w stored (logged d.name (settle_said (pending (log_of w.history (database_of d)))) [])
-  settle-done says may =
-      let own : List Pending → Act = λ ws. logged d.name (settle_said ws) [] in
-      let is : own says.writes ≡ own (pending (log_of w.history (database_of d))) = ap own (says.are w shows) in
-      subst (IsDone w stored) is
-      (done-said w d (settle_said says.writes) [] stored says.says named shows (subst (MayDo w) (sym is) may) says.low
-      (λ logs. settle-placed d.files (log_of w.history (database_of d)) d.shown.«end» says.writes))
 
 -- the row of a commit is what its part says
 row-noted : (w : World) (name : List ℕ) (lsn time : ℕ) (mark : Option Mark) → AreParts w (mark_part (marked_row name lsn time mark)) (notes_mark name lsn time mark)

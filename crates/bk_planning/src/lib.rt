@@ -1,5 +1,5 @@
-//! What each statement that reads no medium comes to over what an instance keeps in memory, and the acts by which transactions
-//! end where a run ends or was cut off.
+//! What each statement that reads no medium comes to over what an instance keeps in memory, and the act by which a
+//! transaction is rolled back, as the end of a run does, too.
 #![tactic(auto)]
 
 mod begin;
@@ -16,4 +16,4 @@ mod undoing;
 mod use_database;
 
 pub use planning::plan;
-pub use undoing::{rollback_act, settle_act};
+pub use undoing::rollback_act;

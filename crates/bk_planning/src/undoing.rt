@@ -1,19 +1,17 @@
-//! The acts by which a database undoes what is pending in it: a transaction is rolled back, or, where a run was cut off, all of them are.
+//! The act by which an open transaction of a database is rolled back.
 
-ghost use Rattle.std.specs.Prelude.{◌≡◌, ◌+◌, ◌≤◌, ◌^◌, [], Some, length, map, IfOk};
+ghost use Rattle.std.specs.Prelude.{◌≡◌, ◌+◌, ◌≤◌, ◌^◌, Some, length, map, IfOk};
 ghost use Rattle.bk_acts.specs.Meaning.{Spell};
 ghost use Rattle.bk_acts.specs.Conditions.{KeepRecords, KeepsAct};
 ghost use Rattle.bk_kept.specs.Keeps.{ShowsLog, database_of};
-ghost use Rattle.bk_kept.specs.Numbers.{CanEnd, CanSettle};
+ghost use Rattle.bk_kept.specs.Numbers.{CanEnd};
 ghost use Rattle.bk_kept.specs.Stored.{IsDone};
-ghost use Rattle.bk_machine.specs.Acts.{logged as logged_by};
 ghost use Rattle.bk_machine.specs.MayDo.{MayDo};
-ghost use Rattle.bk_machine.specs.World.{World, database_named, log_of, without_begin};
+ghost use Rattle.bk_machine.specs.World.{World, database_named, without_begin};
 ghost use Rattle.bk_machine.specs.statements.Rollback.{rolls_back};
 ghost use Rattle.bk_planning.specs.Undoing.{SaysOf};
 ghost use Rattle.bk_shown.specs.Shown.{pending_of};
-ghost use Rattle.bk_world.specs.Pending.{pending};
-ghost use Rattle.bk_world.specs.Says.{rollback_said, settle_said};
+ghost use Rattle.bk_world.specs.Says.{rollback_said};
 
 use crate::ending::open_without;
 use bk_acts::StoredAct;
@@ -62,19 +60,4 @@ pub fn rollback_act(
             Err(error)
         }
     }
-}
-
-/// The act by which all that is pending in a database is undone, the last write first, and no transaction of it is open any more.
-pub fn settle_act(alloc: Global, database: &DatabaseView<'_>) -> Result<StoredAct, AllocError>
-    requires { CanSettle database.now }
-    ensures says { IfOk result (SaysOf database.now settle_said []) }
-    ensures is_done { IfOk result (λ act. (w : World) → database_named w.databases database.now.name ≡ Some (database_of database.now) → ShowsLog w.history database.now
-        → MayDo w (logged_by database.now.name (settle_said (pending (log_of w.history (database_of database.now)))) [])
-        → IsDone w act (logged_by database.now.name (settle_said (pending (log_of w.history (database_of database.now)))) [])) }
-    ensures keeps { IfOk result KeepsAct }
-{
-    let written = database.shown.written();
-    let said = undo(alloc, written, None, database.shown.end())?;
-    let records = Sequence::new(said.records);
-    logged(alloc, database, Sequence::new(Vec::new(alloc)), records)
 }

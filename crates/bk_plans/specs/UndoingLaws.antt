@@ -1,12 +1,12 @@
 -- What undoes pending writes is in its place wherever it comes.
-use Rattle.std.proofs.Common.{◌≡◌, ◌≤◌, ℕ, suc, ◌+◌, Bool, true, false, cond, List, [], ◌∷◌, ◌++◌, length, reverse, Option, None, Some, ◌∙◌, subst, arith}
+use Rattle.std.proofs.Common.{◌≡◌, ◌≤◌, ℕ, suc, ◌+◌, Bool, true, false, cond, List, [], ◌∷◌, ◌++◌, length, reverse, Option, None, Some, ◌∙◌, arith}
 use Rattle.std.specs.Prelude.{◌==◌, filter}
-use Rattle.std.proofs.lemmas.List.{append-nil, length-append, length-reverse}
+use Rattle.std.proofs.lemmas.List.{length-append, length-reverse}
 use Rattle.bk_plans.specs.Undoing.{those_of}
 use Rattle.bk_shown.specs.Shown.{ArePlaced}
 use Rattle.bk_world.specs.Pending.{Pending, of_transaction}
 use Rattle.bk_world.specs.Records.{Logged, Said, numbered}
-use Rattle.bk_world.specs.Says.{rollback_said, settle_said, undoing}
+use Rattle.bk_world.specs.Says.{rollback_said, undoing}
 use Rattle.bk_world.specs.SettledLaws.{length-undoing}
 use Rattle.bk_world.specs.declared.database.FileSpec.{FileSpec}
 
@@ -25,10 +25,6 @@ pub those-fewer : (only : Option ℕ) (ws : List Pending) → length (those_of o
 those-fewer None ws = omega arith
 those-fewer (Some begin) ws = fewer (λ w. w.begin == begin) ws
 
--- each write is undone by one record
-pub settle-length : (ws : List Pending) → length (settle_said ws) ≡ length ws
-settle-length ws = length-undoing (reverse ws) ∙ length-reverse ws
-
 pub rollback-length : (begin : ℕ) (ws : List Pending) → length (rollback_said begin ws) ≤ length ws + 1
 rollback-length begin ws =
     let own : List Pending = of_transaction begin ws in
@@ -45,6 +41,3 @@ undoing-placed files rs n (w ∷ ws) said rest = (tt, undoing-placed files (rs +
 
 pub rollback-placed : (files : List FileSpec) (rs : List Logged) (n begin : ℕ) (ws : List Pending) → ArePlaced files rs (numbered n (rollback_said begin ws))
 rollback-placed files rs n begin ws = undoing-placed files rs n (reverse (of_transaction begin ws)) _ (λ log m. (tt, tt))
-
-pub settle-placed : (files : List FileSpec) (rs : List Logged) (n : ℕ) (ws : List Pending) → ArePlaced files rs (numbered n (settle_said ws))
-settle-placed files rs n ws = subst (λ said. ArePlaced files rs (numbered n said)) (append-nil (undoing (reverse ws))) (undoing-placed files rs n (reverse ws) [] (λ log m. tt))

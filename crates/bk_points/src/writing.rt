@@ -28,8 +28,7 @@ fn append_log_points(out: &mut Vec<u8>, points: &Points) -> Result<(), AllocErro
     append_u64(out, points.archive)?;
     append_u64(out, points.kept)?;
     append_u64(out, points.checkpoint)?;
-    append_u8(out, flags(points.chain, points.began))?;
-    Ok(())
+    append_u8(out, flags(points.chain, points.began))
 }
 
 fn append_base(out: &mut Vec<u8>, base: Option<Base>) -> Result<(), AllocError>
@@ -40,11 +39,10 @@ fn append_base(out: &mut Vec<u8>, base: Option<Base>) -> Result<(), AllocError>
         Some(base) => {
             append_u8(out, 1)?;
             append_guid(out, base.set)?;
-            append_u64(out, base.lsn)?;
+            append_u64(out, base.lsn)
         }
-        None => append_u8(out, 0)?,
+        None => append_u8(out, 0),
     }
-    Ok(())
 }
 
 fn append_standby(out: &mut Vec<u8>, path: &Text) -> Result<(), AllocError>
@@ -55,8 +53,7 @@ fn append_standby(out: &mut Vec<u8>, path: &Text) -> Result<(), AllocError>
 {
     append_u8(out, 2)?;
     let text = path.as_str();
-    append_text(out, text.as_bytes())?;
-    Ok(())
+    append_text(out, text.as_bytes())
 }
 
 fn append_status(out: &mut Vec<u8>, status: &Status) -> Result<(), AllocError>
@@ -78,15 +75,14 @@ fn append_id(out: &mut Vec<u8>, id: UnitId) -> Result<(), AllocError>
     match id {
         UnitId::File(file) => {
             append_u8(out, 0)?;
-            append_u16(out, file)?;
+            append_u16(out, file)
         }
         UnitId::Page(file, page) => {
             append_u8(out, 1)?;
             append_u16(out, file)?;
-            append_u32(out, page)?;
+            append_u32(out, page)
         }
     }
-    Ok(())
 }
 
 fn append_restoring(out: &mut Vec<u8>, base: Option<Base>, redo: Lsn) -> Result<(), AllocError>
@@ -95,8 +91,7 @@ fn append_restoring(out: &mut Vec<u8>, base: Option<Base>, redo: Lsn) -> Result<
 {
     append_u8(out, 3)?;
     append_base(out, base)?;
-    append_u64(out, redo)?;
-    Ok(())
+    append_u64(out, redo)
 }
 
 fn append_state(out: &mut Vec<u8>, state: State) -> Result<(), AllocError>
@@ -116,8 +111,7 @@ fn append_unit(out: &mut Vec<u8>, unit: Unit) -> Result<(), AllocError>
     ensures fits { OnOk result (IsUnit unit) }
 {
     append_id(out, unit.id)?;
-    append_state(out, unit.state)?;
-    Ok(())
+    append_state(out, unit.state)
 }
 
 fn append_units(out: &mut Vec<u8>, units: &[Unit]) -> Result<(), AllocError>
@@ -140,8 +134,7 @@ fn append_points(out: &mut Vec<u8>, points: &Points) -> Result<(), AllocError>
     append_log_points(out, points)?;
     append_base(out, points.base)?;
     append_status(out, &points.status)?;
-    append_units(out, points.units.as_slice())?;
-    Ok(())
+    append_units(out, points.units.as_slice())
 }
 
 /// The bytes of what is kept of a database's log and units: at most 256 units, and a standby file whose path has 1 to 100 bytes. There are at most 10,667 of them.

@@ -64,8 +64,7 @@ fn append_name(out: &mut Vec<u8>, name: &Name) -> Result<(), AllocError>
     ensures fits { OnOk result (IsString 1 64 name.now) }
 {
     let text = name.as_str();
-    append_text(out, text.as_bytes())?;
-    Ok(())
+    append_text(out, text.as_bytes())
 }
 
 fn append_description(out: &mut Vec<u8>, text: &Description) -> Result<(), AllocError>
@@ -73,8 +72,7 @@ fn append_description(out: &mut Vec<u8>, text: &Description) -> Result<(), Alloc
     ensures fits { OnOk result (IsString 1 65535 text.now) }
 {
     let text = text.as_str();
-    append_text(out, text.as_bytes())?;
-    Ok(())
+    append_text(out, text.as_bytes())
 }
 
 /// Appends the spelling of a mark: its name and its description, empty texts where there is none.
@@ -85,15 +83,14 @@ pub fn append_mark(out: &mut Vec<u8>, mark: &Option<Mark>) -> Result<(), AllocEr
     match mark {
         None => {
             append_text(out, &[])?;
-            append_text(out, &[])?;
+            append_text(out, &[])
         }
         Some(mark) => {
             append_name(out, &mark.name)?;
             match &mark.description {
-                None => append_text(out, &[])?,
-                Some(text) => append_description(out, text)?,
+                None => append_text(out, &[]),
+                Some(text) => append_description(out, text),
             }
         }
     }
-    Ok(())
 }

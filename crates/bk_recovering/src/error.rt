@@ -1,7 +1,9 @@
 // Why a database wasn't recovered.
 ghost use Rattle.bk_recovering.specs.Errors.{FromArrive, FromOpen, FromStore};
+ghost use Rattle.bk_recovering.specs.Troubles.{FromRecover};
 
 use bk_arriving::ArriveError;
+use bk_device::Trouble;
 use bk_reopening::OpenError;
 use bk_store::StoreError;
 use thiserror::Error;
@@ -51,6 +53,18 @@ impl From<StoreError> for RecoverError {
         match error {
             StoreError::Fault => RecoverError::Fault,
             StoreError::NoMemory => RecoverError::NoMemory,
+        }
+    }
+}
+
+impl From<RecoverError> for Trouble {
+    ghost from_gives = { FromRecover };
+
+    fn from(error: RecoverError) -> Self {
+        match error {
+            RecoverError::Unfit => Trouble::Broken,
+            RecoverError::Fault => Trouble::Fault,
+            RecoverError::NoMemory => Trouble::NoMemory,
         }
     }
 }

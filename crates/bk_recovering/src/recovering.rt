@@ -79,15 +79,13 @@ fn say_last<D: Device>(
     ensures cause { HasCause D.disk_faults D.tell_faults dev.old dev.new (IsErrOf result StoreError.Fault) }
 {
     store.say(alloc, dev, last)?;
-    store.flush(alloc, dev)?;
-    Ok(())
+    store.flush(alloc, dev)
 }
 
-/// Makes the database of this number of a full set that was opened on a medium, in place of what was there, with these data files, the number of its latest checkpoint, what is known of it, and these bytes, at most 12,288,
-/// as the note of the layer above; opens it, which undoes what was pending in the backup, and says this record behind that, which is durable then.
+/// Makes the database of this number of an opened full set, with these data files, the number of its latest checkpoint, what is known of it, and at most 12,288 bytes as the note of the layer above;
+/// opens it, undoing what was pending, and says this record durably.
 ///
-/// `Unfit` is answered only where the set makes no database with these data files. Whatever it makes, only files of a database of this number are touched; where it makes one, only those with these data files, and a crash may leave
-/// anything there. After an error they may hold anything.
+/// `Unfit` is answered only where the set makes no database of these data files. A crash or an error may leave anything in files of this number, but touches no others.
 pub fn recover<R: Threads + Sync, D: Device>(
     rt: &R,
     alloc: Global,

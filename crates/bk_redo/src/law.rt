@@ -36,9 +36,9 @@ pub fn slice_law()
 {}
 
 /// The chain law: pages that are as of a point, restored by sets of which each follows the one before it, are as of the last
-/// set's end. Each page leads there: a copy of it that was made behind the start of the set's log, while no bulk load
-/// named it; a copy as of the end, as a log set has of loaded extents; a page that no bulk load of a log set names; and a page
-/// that a differential doesn't hold, since as of the differential's checkpoint no record from the base on had touched it.
+/// set's end. Each page leads there: a copy from behind the start of the set's log, while no bulk load named it; a copy as of
+/// the end; a page that no bulk load names; and one that a differential doesn't hold, which no record from its base on had
+/// touched by its checkpoint.
 pub fn chain_law()
     ensures chain { (pages : PageAt → Bool) (path : List Rec) (point : ℕ) (sets : List PageSet) (at : PageAt) (page : PageState) → IsChain pages path point sets → pages at ≡ true → page ≡ as_of at point path → after_sets at sets page ≡ as_of at (last_point point sets) (last_path path sets) }
     ensures copied { (at : PageAt) (path : List Rec) (c from to : ℕ) → from ≤ c → c ≤ to → list_any (fills at) (records_between c to path) ≡ false → Leads at path c from to }

@@ -19,10 +19,10 @@ use std::alloc::Global;
 use std::thread::Threads;
 
 /// Redoes pages by the records of a log that have a number from `from` on and below `to`. The frames hold these pages, all
-/// different, one after the other, and may hold others behind them, which stay. The digests aren't sealed anew.
+/// different, one after the other, and may hold others behind them, which stay. Digests aren't sealed anew.
 ///
-/// So many workers, at least one, share the pages; what becomes of them is the same for each number of workers.
-/// `BadRecord` is answered exactly where reading the log breaks off. An error leaves all pages as they were.
+/// So many workers, at least one, share the pages; their number changes no page. `BadRecord` is answered exactly where reading
+/// the log breaks off. An error leaves all pages as they were.
 pub fn redo<R: Threads + Sync>(
     rt: &R,
     alloc: Global,

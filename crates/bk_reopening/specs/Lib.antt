@@ -1,7 +1,8 @@
 pub mod Cells
-pub mod Reopening
 pub mod Errors
 pub mod QuietLaws
+pub mod Reopening
+pub mod Troubles
 pub use Rattle.bk_log.specs.Laws as LogLaws
 pub use Rattle.bk_opening.specs.Opening
 pub use Rattle.bk_opening.specs.Quiet as OpeningQuiet

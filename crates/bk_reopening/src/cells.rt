@@ -72,8 +72,7 @@ fn add_slot(
     let Some(cell) = read_cell(bytes, place.slot.get()) else {
         return Err(OpenError::Foreign);
     };
-    add_cell(alloc, rows, place, cell)?;
-    Ok(())
+    add_cell(alloc, rows, place, cell)
 }
 
 // Adds the rows on a page.

@@ -1,8 +1,10 @@
 // Why a database wasn't opened.
 ghost use Rattle.std.specs.Prelude.{◌≡◌};
 ghost use Rattle.bk_reopening.specs.Errors.{FromNote, FromPaged, FromTaking};
+ghost use Rattle.bk_reopening.specs.Troubles.{FromOpen};
 ghost use Rattle.bk_reopening.specs.declared.error.OpenError.TheVariants.{NoMemory};
 
+use bk_device::Trouble;
 use bk_paged::PagedError;
 use bk_reading::Unread;
 use bk_shown::TakeError;
@@ -69,6 +71,18 @@ impl From<TakeError> for OpenError {
         match error {
             TakeError::Unfit => OpenError::Foreign,
             TakeError::NoMemory => OpenError::NoMemory,
+        }
+    }
+}
+
+impl From<OpenError> for Trouble {
+    ghost from_gives = { FromOpen };
+
+    fn from(error: OpenError) -> Self {
+        match error {
+            OpenError::Foreign => Trouble::Broken,
+            OpenError::Fault => Trouble::Fault,
+            OpenError::NoMemory => Trouble::NoMemory,
         }
     }
 }

@@ -45,8 +45,7 @@ fn shown_in(
     placed_logs();
     let recent = recent_of(alloc, paged, records.as_slice(), known)?;
     drop(records);
-    let shown = shown_of(alloc, paged, known.spec.storage.files.as_slice(), &recent)?;
-    Ok(shown)
+    shown_of(alloc, paged, known.spec.storage.files.as_slice(), &recent)
 }
 
 // What the note of a database and its log show.
@@ -62,10 +61,10 @@ fn read_parts(alloc: Global, paged: &Paged, records: LogBytes) -> Result<(Noted,
     Ok((noted, shown))
 }
 
-/// Opens a database over its files: what counts of its log is made durable, its log and pages are brought to the end, what is pending is undone by durable records, and its rows are read from the
-/// pages. A crash leaves the records that there were, and perhaps some of those that undo; then this call opens it again. Where nothing is to be finished or undone the files stay as they are.
+/// Opens a database over its files: what counts of its log is made durable, log and pages are brought to the end, what is pending is undone by durable records, and rows are read. Where nothing is to be
+/// finished or undone the files stay as they are. A crash leaves the records that there were, and perhaps some of those that undo.
 ///
-/// `Foreign` is answered only where the files hold no database, and `Fault` only where the device failed. After an error files may have been touched, but no record is lost.
+/// `Foreign` is answered only where the files hold no database. After an error no record is lost.
 pub fn load<R: Threads + Sync, D: Device>(
     rt: &R,
     alloc: Global,

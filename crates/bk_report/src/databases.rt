@@ -31,6 +31,5 @@ pub fn push_database(
 {
     let name = name.as_str();
     let status = state_word(status);
-    text.push_str(&format!(in alloc; "{name}\t{status}\n")?)?;
-    Ok(())
+    text.push_str(&format!(in alloc; "{name}\t{status}\n")?)
 }

@@ -35,8 +35,7 @@ fn push_file(
     let group = group_name(groups, file.group);
     let bytes = u64::from(file.extents) * EXTENT_BYTES;
     let number = file.number;
-    text.push_str(&format!(in alloc; "{name}\t{path}\tD\t{group}\t{bytes}\t{number}\n")?)?;
-    Ok(())
+    text.push_str(&format!(in alloc; "{name}\t{path}\tD\t{group}\t{bytes}\t{number}\n")?)
 }
 
 fn push_log(alloc: Global, text: &mut String, storage: &Storage) -> Result<(), AllocError>
@@ -45,8 +44,7 @@ fn push_log(alloc: Global, text: &mut String, storage: &Storage) -> Result<(), A
     let name = storage.log_name.as_str();
     let path = storage.log_path.as_str();
     let number = storage.files.as_slice().len() + 1;
-    text.push_str(&format!(in alloc; "{name}\t{path}\tL\tNULL\t0\t{number}\n")?)?;
-    Ok(())
+    text.push_str(&format!(in alloc; "{name}\t{path}\tL\tNULL\t0\t{number}\n")?)
 }
 
 fn push_data_files(

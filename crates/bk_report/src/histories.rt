@@ -53,8 +53,7 @@ pub fn push_restore(
 {
     let restored = restored_cells(alloc, row)?;
     let asked = asked_cells(alloc, row)?;
-    text.push_str(&format!(in alloc; "{id}\t{restored}\t{asked}\n")?)?;
-    Ok(())
+    text.push_str(&format!(in alloc; "{id}\t{restored}\t{asked}\n")?)
 }
 
 fn description_text(description: &Option<Description>) -> &str
@@ -76,6 +75,5 @@ pub fn push_mark(alloc: Global, text: &mut String, row: &MarkRow) -> Result<(), 
     let description = description_text(&row.mark.description);
     let lsn = row.lsn;
     let time = time(alloc, row.time)?;
-    text.push_str(&format!(in alloc; "{database}\t{mark}\t{description}\t{lsn}\t{time}\n")?)?;
-    Ok(())
+    text.push_str(&format!(in alloc; "{database}\t{mark}\t{description}\t{lsn}\t{time}\n")?)
 }

@@ -80,6 +80,5 @@ pub fn push_listing(alloc: Global, text: &mut String, listing: &Listing) -> Resu
     ensures err { OnErr result (string_bytes text.new ≡ string_bytes text.old) }
 {
     let lines = lines(alloc, listing)?;
-    text.push_str(&lines)?;
-    Ok(())
+    text.push_str(&lines)
 }

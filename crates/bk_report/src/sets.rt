@@ -190,8 +190,7 @@ pub fn push_header(
     ensures err { OnErr result (string_bytes text.new ≡ string_bytes text.old) }
 {
     let columns = columns(alloc, type_number(header.kind), position, header)?;
-    text.push_str(&format!(in alloc; "{columns}\n")?)?;
-    Ok(())
+    text.push_str(&format!(in alloc; "{columns}\n")?)
 }
 
 /// Adds a row of backupset, by its number in the table from 1. Where memory is wanting, the text is as it was.
@@ -206,6 +205,5 @@ pub fn push_backup(
 {
     let kind = type_letter(row.header.kind);
     let columns = columns(alloc, kind, u64::from(row.position), &row.header)?;
-    text.push_str(&format!(in alloc; "{id}\t{columns}\n")?)?;
-    Ok(())
+    text.push_str(&format!(in alloc; "{id}\t{columns}\n")?)
 }

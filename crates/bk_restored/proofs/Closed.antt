@@ -1,5 +1,6 @@
 -- Files that hold what the store of a database keeps of it hold that database.
-use Rattle.std.proofs.Common.{◌≡◌, ℕ, List, ◌++◌, sym, ap, subst, ◌∙◌}
+use Rattle.std.proofs.Common.{◌≡◌, ℕ, List, ◌++◌, Result, Ok, Err, sym, ap, subst, ◌∙◌}
+use Rattle.std.specs.Prelude.{OnOk}
 use Rattle.bk_device.specs.Disk.{Disk}
 use Rattle.bk_facts.specs.declared.facts.DataFile.{DataFile}
 use Rattle.bk_ids.specs.declared.record.Rec.{Rec}
@@ -24,3 +25,8 @@ arrived-closed a checkpoint note given records known told disk enough durable ho
   durable = subst (λ (fs : List DataFile). AreDurable a.log.db fs disk) (sym enough.suffices.files) durable;
   holds = record { known = known; noted = enough.noted; log = enough.log; holds = holds };
 }
+
+-- what follows from two facts of a last call
+pub both-ok : {T E P Q R : Type 0} (r : Result T E) → (P → Q → R) → OnOk r P → OnOk r Q → OnOk r R
+both-ok (Ok _) f p q = f p q
+both-ok (Err _) f p q = tt

@@ -17,8 +17,8 @@ use bk_known::{Known, spell_known};
 use bk_restoring::{Arriving, FillError};
 use std::alloc::Global;
 
-/// Puts the control record of a database that has arrived, with the number of its latest checkpoint, what is known of it, and these bytes, at most 12,288, as the note of the layer above: then nothing is pending
-/// in its files, where nothing was in those of its log before, and they hold each database for which pages and records suffice. All pages are there. What is pending in its log is undone when it is opened.
+/// Puts the control record of a database that has arrived, all of whose pages are there, with the number of its latest checkpoint, what is known of it, and these bytes, at most 12,288, as the note of
+/// the layer above: then nothing is pending in its files, and they hold each database for which pages and records suffice. What is pending in its log is undone when it is opened.
 ///
 /// After an error the files may hold anything.
 pub fn finish<D: Device>(
@@ -39,6 +39,5 @@ pub fn finish<D: Device>(
     ensures cause { HasCause D.disk_faults D.tell_faults dev.old dev.new (IsErrOf result FillError.Fault) }
 {
     let bytes = spell_known(alloc, known, note)?;
-    arriving.finish(alloc, dev, checkpoint, &bytes)?;
-    Ok(())
+    arriving.finish(alloc, dev, checkpoint, &bytes)
 }

@@ -2,7 +2,7 @@
 use Rattle.std.proofs.Common.{◌≡◌, ◌≤◌, ◌<◌, ◌^◌, ◌*◌, ℕ, zero, suc, ◌+◌, ◌-◌, List, [], ◌∷◌, ◌++◌, map, length, length-append, length-drop, get_or, Option, Some, None, refl, inl, inr, sym, ap, subst, ◌∙◌, arith}
 use Rattle.std.specs.List.{AllByRecursion, flat_map}
 use Rattle.std.specs.Option.{option_map_or}
-use Rattle.std.specs.Prelude.{option_map, slice_get}
+use Rattle.std.specs.Prelude.{option_map, slice_get, OnOk, Result, Ok, Err}
 use Rattle.std.proofs.lemmas.Bool.{cases_lt}
 use Rattle.std.proofs.lemmas.Option.{same_Some, slice_get-get_or, slice_get-map, slice_get_past}
 use Rattle.bk_bytes.specs.Field.{bytes_of}
@@ -13,7 +13,7 @@ use Rattle.bk_device.specs.Effects.{Effect, IsName, KeepsFiles}
 use Rattle.bk_facts.specs.declared.facts.DataFile.{DataFile}
 use Rattle.bk_facts.specs.Facts.{HasPath, Notes, facts_bytes, file_bytes}
 use Rattle.bk_filling.specs.Filling.{IsFilling, MayFill, Shows, begun, Kept as KeptData}
-use Rattle.bk_filling.specs.Laws.{begun_fills, begun_shows, filling_kept, log_kept, named, not_side, records_kept, shows_kept}
+use Rattle.bk_filling.specs.Laws.{begun_fills, filling_kept, log_kept, named, not_side, records_kept, shows_kept}
 use Rattle.bk_filling.specs.Records.{HasRecords, IsBegun as IsBegunLog, Kept as KeptLog}
 use Rattle.bk_filling.specs.Removing.{AreGone, IsPart}
 use Rattle.bk_gate.specs.Blobs.{sealed}
@@ -31,6 +31,17 @@ use Rattle.bk_side.specs.Names.{AreDifferent, IsData, data_file, name_of, side_f
 use Rattle.bk_side.specs.Pages.{page_in, page_of}
 use Rattle.bk_side.specs.Side.{AreDurable as PagesAreDurable}
 use Rattle.bk_restoring.specs.Arriving.{IsArriving, IsBegun, Kept, Suffices}
+
+-- ---- results
+
+pub on_ok_both : {T E : Type 0} (A B : Type 0) (r : Result T E) → OnOk r A → OnOk r B → OnOk r (A × B)
+on_ok_both A B (Ok x) a b = (a, b)
+on_ok_both A B (Err e) a b = tt
+
+-- what holds on a condition
+pub on_ok_under : {T E : Type 0} (A B : Type 0) (r : Result T E) → (A → OnOk r B) → OnOk r (A → B)
+on_ok_under A B (Ok x) f = f
+on_ok_under A B (Err e) f = tt
 
 -- ---- names
 
@@ -69,9 +80,6 @@ arrives_first files log b c gone begun_log effect =
       log = begun_log;
       side = λ name at. still name (inl at);
     }
-
-pub has_none : (files : List DataFile) (log : KeptLog) (c : Disk) (given : ℕ × ℕ → List ℕ) → HasRecords c.files log [] → IsArriving c.files (record { filling = begun files; log = log }) given []
-has_none files log c given has = record { pages = begun_shows files c.files given; log = has }
 
 pub parts_effect : {P : Files → Type 0} (db : ℕ) (files : List DataFile) (paths : List (List ℕ)) (a b : Disk) → paths ≡ map (λ f. f.path) files → Effect (IsPart db (map data_file paths)) P a b → Effect (IsOwn db files) P a b
 parts_effect {P} db files paths a b same effect = subst (λ (ps : List (List ℕ)). Effect (IsPart db (map data_file ps)) P a b) same effect

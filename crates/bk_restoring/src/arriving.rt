@@ -91,8 +91,7 @@ impl Arriving {
         ensures crash { D.tells → Effect (IsOwn self.old.log.db self.old.filling.files) (λ _. Unit {0}) (D.disk dev.old) (D.disk dev.new) }
         ensures cause { HasCause D.disk_faults D.tell_faults dev.old dev.new (IsErr result) }
     {
-        self.filling.push(dev, bytes)?;
-        Ok(())
+        self.filling.push(dev, bytes)
     }
 
     /// Adds the next page as it is before any log record, with its digest. Not all pages are there.
@@ -109,8 +108,7 @@ impl Arriving {
         let (file, number) = self.place();
         let mut page = [0u8; 8192];
         format_page(&mut page, file, number);
-        self.push_page(dev, &page)?;
-        Ok(())
+        self.push_page(dev, &page)
     }
 
     /// Adds bytes that spell whole records, whose numbers follow those that are there, and makes them durable.
@@ -130,8 +128,7 @@ impl Arriving {
         ensures crash { D.tells → Effect (IsOwn self.old.log.db self.old.filling.files) (λ _. Unit {0}) (D.disk dev.old) (D.disk dev.new) }
         ensures cause { HasCause D.disk_faults D.tell_faults dev.old dev.new (IsErrOf result FillError.Fault) }
     {
-        self.log.push(alloc, dev, bytes)?;
-        Ok(())
+        self.log.push(alloc, dev, bytes)
     }
 
     /// Puts the control record, with the number of the latest checkpoint and these bytes, at most 30,720, as the note of the layer above: then nothing is pending in its pages and in what counts of its log,
@@ -160,7 +157,6 @@ impl Arriving {
             files: filling.into_files(),
         };
         let bytes = spell_note(alloc, &facts, note)?;
-        log.finish(alloc, dev, &bytes)?;
-        Ok(())
+        log.finish(alloc, dev, &bytes)
     }
 }

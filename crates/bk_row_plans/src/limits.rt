@@ -33,8 +33,7 @@ pub(crate) fn check_value(value: &Text) -> Result<(), Refusal>
         Rule::ValueTooLong {
             bytes: bytes as u64,
         },
-    )?;
-    Ok(())
+    )
 }
 
 // Refused where a number is no key of a row.
@@ -42,8 +41,7 @@ pub(crate) fn check_key(key: u64) -> Result<(), Refusal>
     ensures check { IsCheck (λ u. u) result (target.check_key key) }
     ensures low { IfOk result (λ u. key ≤ 9223372036854775807) }
 {
-    refuse_if(key > GREATEST_KEY, Rule::LimitReached { which: Limit::Key })?;
-    Ok(())
+    refuse_if(key > GREATEST_KEY, Rule::LimitReached { which: Limit::Key })
 }
 
 // Refused where the open transaction of another session has written a row.
@@ -83,8 +81,7 @@ fn check_more(kept: &InstanceView<'_>, database: &DatabaseView<'_>) -> Result<()
             which: Limit::Writes,
         },
     )?;
-    limit(used_up(database.shown.end()))?;
-    Ok(())
+    limit(used_up(database.shown.end()))
 }
 
 // That is checked where a row is written.

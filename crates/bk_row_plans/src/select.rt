@@ -43,14 +43,10 @@ fn asked_rows(
     ensures { IfOk result (λ rows. (w : World) → Sees w kept.now → ShowsLog w.history database.now → rows.items ≡ selecting.asked_rows key (visible w (database_of database.now) table.now)) }
 {
     match key {
-        None => {
-            let rows = seen_rows(alloc, kept, database, table)?;
-            Ok(rows)
-        }
+        None => seen_rows(alloc, kept, database, table),
         Some(key) => {
             let value = seen_row(kept, database, table, key);
-            let rows = row_of(alloc, key, value)?;
-            Ok(rows)
+            row_of(alloc, key, value)
         }
     }
 }

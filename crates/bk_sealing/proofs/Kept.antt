@@ -6,7 +6,7 @@ use Rattle.std.specs.Str.{bytes_eq}
 use Rattle.std.proofs.lemmas.Bool.{and_from, eq-eqb, le-leb, lt-ltb, or_left, or_right}
 use Rattle.std.proofs.lemmas.Option.{same_Some}
 use Rattle.std.proofs.lemmas.Slice.Eq.{bytes_eq-Decides}
-use Rattle.bk_body.specs.Conditions.{FollowOn, KeepsDeed, KeepsRecords, has_extent, is_in_file, joined, made_by, same_table, tables_made}
+use Rattle.bk_body.specs.Conditions.{AreDifferent, Differ, FollowOn, KeepTables, KeepsDeed, KeepsRecords, has_extent, is_in_file, joined, made_by, same_table, tables_made}
 use Rattle.bk_ids.specs.Name.{same_name}
 use Rattle.bk_ids.specs.declared.record.Place.{Place}
 use Rattle.bk_ids.specs.declared.record.Rec.{Rec}
@@ -15,7 +15,6 @@ use Rattle.bk_machine.specs.Acts.{latest}
 use Rattle.bk_machine.specs.Fits.{AreNamedApart, FitsLog}
 use Rattle.bk_machine.specs.Sound.{AreNumbered}
 use Rattle.bk_paths.specs.Paths.{kept_from}
-use Rattle.bk_set.specs.Conditions.{AreDifferent, Differ, KeepTables}
 use Rattle.bk_shown.specs.Shown.{ArePlaced, IsPlaced}
 use Rattle.bk_undo.specs.Spelled.{body_of, spelled}
 use Rattle.bk_world.specs.Entry.{Entry}

@@ -1,7 +1,8 @@
 // A database is copied into a set.
-ghost use Rattle.std.specs.Prelude.{◌≡◌, ◌<◌, ◌+◌, ◌^◌, false, length, Some, slice_get, IfOk, OnOk, IsErrOf};
+ghost use Rattle.std.specs.Prelude.{◌≡◌, ◌<◌, ◌+◌, ◌^◌, false, length, Some, slice_get, IfErr, IfOk, OnOk, IsErrOf};
 ghost use Rattle.bk_device.specs.Counts.{HasCause};
 ghost use Rattle.bk_device.specs.Effects.{Effect};
+ghost use Rattle.bk_device.specs.Troubles.{IsPassing};
 ghost use Rattle.bk_engine.specs.Copying.{HoldsFront};
 ghost use Rattle.bk_engine.specs.Guids.{IsGuid};
 ghost use Rattle.bk_engine.specs.HostingCopying.{HaveExtents};
@@ -15,10 +16,8 @@ ghost use Rattle.bk_volume.specs.Names.{staging_file};
 ghost use Rattle.bk_volume.specs.Staging.{IsStaged};
 ghost use Rattle.bk_sealing.specs.Copied.{HoldsCopy};
 ghost use Rattle.bk_sealing.specs.Sealing.{IsSetNow};
-ghost use Rattle.bk_sealing.specs.declared.error.SealError.TheVariants.{Fault, NoMemory};
 
-use crate::error::SealError;
-use bk_device::Device;
+use bk_device::{Device, Trouble};
 use bk_engine::Engine;
 use bk_ids::ExtentId;
 use bk_volume::Staged;
@@ -31,16 +30,17 @@ pub(crate) fn place_of<D: Device>(
     engine: &Engine,
     dev: &mut D,
     header: &Header,
-) -> Result<usize, SealError>
+) -> Result<usize, Trouble>
     requires ready { IsReady engine.now }
     ensures same { dev.new ≡ dev.old }
     ensures inside { IfOk result (λ at. at < length engine.now.hosting.states) }
     ensures there { D.tells → (w : World) (is : IsSetNow w header.now) → StandsFor (D.disk dev.old) engine.now w → IfOk result (λ at. slice_get w.databases at ≡ Some is.db) }
-    ensures cause { HasCause D.disk_faults D.tell_faults dev.old dev.new (IsErrOf result Fault) }
+    ensures trouble { IfErr result IsPassing }
+    ensures cause { HasCause D.disk_faults D.tell_faults dev.old dev.new (IsErrOf result Trouble.Fault) }
 {
     match engine.find(header.database.as_str()) {
         Some(at) => Ok(at),
-        None => Err(SealError::NoMemory),
+        None => Err(Trouble::NoMemory),
     }
 }
 
@@ -52,7 +52,7 @@ pub(crate) fn copy_rest<D: Device>(
     staged: &mut Staged,
     rest: &[ExtentId],
     header: &Header,
-) -> Result<(), SealError>
+) -> Result<(), Trouble>
     requires ready { IsReady engine.old }
     requires inside { at < length engine.old.hosting.states }
     requires there { HaveExtents engine.old.hosting.stores.slots at rest.now }
@@ -73,9 +73,9 @@ pub(crate) fn copy_rest<D: Device>(
         → HoldsFront w is.db header.now.checkpoint rest.now (D.disk dev.old) staged.old → OnOk result (HoldsCopy w is.db header.now.checkpoint header.now.first header.now.last (D.disk dev.new) staged.new) }
     ensures crash { D.tells → (w : World) → StandsFor (D.disk dev.old) engine.old w → (set : Guid) → IsGuid set → staged.old.name ≡ staging_file set → IsApart w set → Effect IsOurs (Covers w) (D.disk dev.old) (D.disk dev.new) }
     ensures touches { D.tells → TouchesOnly NoMedium (D.disk dev.old) (D.disk dev.new) }
-    ensures cause { HasCause D.disk_faults D.tell_faults dev.old dev.new (IsErrOf result Fault) }
+    ensures trouble { IfErr result IsPassing }
+    ensures cause { HasCause D.disk_faults D.tell_faults dev.old dev.new (IsErrOf result Trouble.Fault) }
 {
     engine.copy_extents(dev, at, staged, rest)?;
-    engine.copy_log(dev, at, staged, header.first, header.last)?;
-    Ok(())
+    engine.copy_log(dev, at, staged, header.first, header.last)
 }

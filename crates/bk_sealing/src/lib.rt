@@ -2,8 +2,6 @@
 #![tactic(auto)]
 
 mod copying;
-mod error;
 mod sealing;
 
-pub use error::SealError;
 pub use sealing::{seal_database, seal_finishing};

@@ -1,7 +1,8 @@
 //! The set of a database is sealed.
-ghost use Rattle.std.specs.Prelude.{◌≡◌, ◌<◌, ◌+◌, ◌^◌, None, Some, false, length, slice_get, OnOk, IsErrOf};
+ghost use Rattle.std.specs.Prelude.{◌≡◌, ◌<◌, ◌+◌, ◌^◌, None, Some, false, length, slice_get, IfErr, OnOk, IsErrOf};
 ghost use Rattle.bk_device.specs.Counts.{HasCause};
 ghost use Rattle.bk_device.specs.Effects.{Effect};
+ghost use Rattle.bk_device.specs.Troubles.{IsPassing};
 ghost use Rattle.bk_engine.specs.Acts.{CutsAct};
 ghost use Rattle.bk_engine.specs.Copying.{HoldsFront};
 ghost use Rattle.bk_engine.specs.Guids.{IsGuid};
@@ -22,12 +23,10 @@ ghost use Rattle.bk_volume.specs.Staging.{IsStaged};
 ghost use Rattle.bk_world.specs.Telling as telling;
 ghost use Rattle.bk_sealing.specs.Copied.{HoldsCopy};
 ghost use Rattle.bk_sealing.specs.Sealing.{IsSetNow};
-ghost use Rattle.bk_sealing.specs.declared.error.SealError.TheVariants.{Fault};
 
 use crate::copying::{copy_rest, place_of};
-use crate::error::SealError;
 use bk_carried::{backups_carry, extents_lie_in_order};
-use bk_device::Device;
+use bk_device::{Device, Trouble};
 use bk_engine::{Engine, Finishing};
 use bk_ids::{ExtentId, Text};
 use bk_kept::InstanceView;
@@ -54,7 +53,7 @@ fn seal_tables<D: Device>(
     staged: &Staged,
     header: &Header,
     tables: &[TableSpec],
-) -> Result<(), SealError>
+) -> Result<(), Trouble>
     requires ready { IsReady engine.now }
     requires whole { staged.now.failed ≡ false }
     requires named { IsStagingFile staged.now.name }
@@ -67,17 +66,17 @@ fn seal_tables<D: Device>(
     ensures crash { D.tells → (w : World) (is : IsSetNow w header.now) → StandsFor (D.disk dev.old) engine.now w → tables.now ≡ telling.tables (log_of w.history is.db) → HoldsCopy w is.db header.now.checkpoint header.now.first header.now.last (D.disk dev.old) staged.now
         → Effect IsOurs (CutsAct w (set_sealed path.now header.now)) (D.disk dev.old) (D.disk dev.new) }
     ensures touches { D.tells → TouchesOnly (IsAt path.now) (D.disk dev.old) (D.disk dev.new) }
-    ensures cause { HasCause D.disk_faults D.tell_faults dev.old dev.new (IsErrOf result Fault) }
+    ensures trouble { IfErr result IsPassing }
+    ensures cause { HasCause D.disk_faults D.tell_faults dev.old dev.new (IsErrOf result Trouble.Fault) }
 {
     backups_carry();
     extents_lie_in_order();
     size_law(staged);
     engine.at_rest(dev);
     if tables.len() > MOST_TABLES {
-        return Err(SealError::NoMemory);
+        return Err(Trouble::NoMemory);
     }
-    engine.seal_set(dev, path, staged, header, tables)?;
-    Ok(())
+    engine.seal_set(dev, path, staged, header, tables)
 }
 
 // Seals what was copied of a header's database; this is seen of the instance.
@@ -88,7 +87,7 @@ fn seal_over<D: Device>(
     path: &Text,
     staged: &Staged,
     header: &Header,
-) -> Result<(), SealError>
+) -> Result<(), Trouble>
     requires ready { IsReady engine.now }
     requires sees { (w : World) → Remembers engine.now w → Sees w seen.now }
     requires whole { staged.now.failed ≡ false }
@@ -102,11 +101,12 @@ fn seal_over<D: Device>(
     ensures crash { D.tells → (w : World) (is : IsSetNow w header.now) → StandsFor (D.disk dev.old) engine.now w → HoldsCopy w is.db header.now.checkpoint header.now.first header.now.last (D.disk dev.old) staged.now
         → Effect IsOurs (CutsAct w (set_sealed path.now header.now)) (D.disk dev.old) (D.disk dev.new) }
     ensures touches { D.tells → TouchesOnly (IsAt path.now) (D.disk dev.old) (D.disk dev.new) }
-    ensures cause { HasCause D.disk_faults D.tell_faults dev.old dev.new (IsErrOf result Fault) }
+    ensures trouble { IfErr result IsPassing }
+    ensures cause { HasCause D.disk_faults D.tell_faults dev.old dev.new (IsErrOf result Trouble.Fault) }
 {
     engine.at_rest(dev);
     let Some(database) = seen.named(header.database.as_str()) else {
-        return Err(SealError::NoMemory);
+        return Err(Trouble::NoMemory);
     };
     let tables = database.shown.tables();
     seal_tables(engine, dev, path, staged, header, tables)
@@ -119,7 +119,7 @@ fn seal_seen<D: Device>(
     path: &Text,
     staged: &Staged,
     header: &Header,
-) -> Result<(), SealError>
+) -> Result<(), Trouble>
     requires ready { IsReady engine.now }
     requires whole { staged.now.failed ≡ false }
     requires named { IsStagingFile staged.now.name }
@@ -132,7 +132,8 @@ fn seal_seen<D: Device>(
     ensures crash { D.tells → (w : World) (is : IsSetNow w header.now) → StandsFor (D.disk dev.old) engine.now w → HoldsCopy w is.db header.now.checkpoint header.now.first header.now.last (D.disk dev.old) staged.now
         → Effect IsOurs (CutsAct w (set_sealed path.now header.now)) (D.disk dev.old) (D.disk dev.new) }
     ensures touches { D.tells → TouchesOnly (IsAt path.now) (D.disk dev.old) (D.disk dev.new) }
-    ensures cause { HasCause D.disk_faults D.tell_faults dev.old dev.new (IsErrOf result Fault) }
+    ensures trouble { IfErr result IsPassing }
+    ensures cause { HasCause D.disk_faults D.tell_faults dev.old dev.new (IsErrOf result Trouble.Fault) }
 {
     engine.at_rest(dev);
     let ends = engine.ends(engine.alloc())?;
@@ -149,7 +150,7 @@ fn seal_rest<D: Device>(
     staged: Staged,
     rest: &[ExtentId],
     header: &Header,
-) -> Result<(), SealError>
+) -> Result<(), Trouble>
     requires ready { IsReady engine.old }
     requires inside { at < length engine.old.hosting.states }
     requires there { HaveExtents engine.old.hosting.stores.slots at rest.now }
@@ -168,25 +169,25 @@ fn seal_rest<D: Device>(
     ensures crash { D.tells → (w : World) (is : IsSetNow w header.now) → StandsFor (D.disk dev.old) engine.old w → (set : Guid) → IsGuid set → staged.name ≡ staging_file set → IsApart w set → slice_get w.databases at ≡ Some is.db
         → HoldsFront w is.db header.now.checkpoint rest.now (D.disk dev.old) staged → Effect IsOurs (CutsAct w (set_sealed path.now header.now)) (D.disk dev.old) (D.disk dev.new) }
     ensures touches { D.tells → TouchesOnly (IsAt path.now) (D.disk dev.old) (D.disk dev.new) }
-    ensures cause { HasCause D.disk_faults D.tell_faults dev.old dev.new (IsErrOf result Fault) }
+    ensures trouble { IfErr result IsPassing }
+    ensures cause { HasCause D.disk_faults D.tell_faults dev.old dev.new (IsErrOf result Trouble.Fault) }
 {
     let mut staged = staged;
     copy_rest(engine, dev, at, &mut staged, rest, header)?;
     seal_seen(engine, dev, path, &staged, header)?;
-    engine.end_set(dev, staged)?;
-    Ok(())
+    engine.end_set(dev, staged)
 }
 
-/// Copies a header's database into a set, and seals that on the medium at a path. Where the header is that of a set of the database as it is, and no backup that runs has the set, the instance stands for the world behind that then; a crash leaves the
-/// world before it, but for what waited, or the one behind it. The record names no set then.
+/// Copies a header's database into a set, and seals that on the medium at a path. Where it is a set of the database as it is, which no backup that runs has, the instance stands for the world behind that
+/// then; a crash leaves the world before it, but for what waited, or the one behind it. The record names no set then.
 ///
-/// Where there is no such database, its live log doesn't hold what the header says, it has more tables than a set may have, or there is no medium at the path, the call ends as if memory were wanting.
+/// `NoMemory` comes too where there is no such database or medium, or no set of it.
 pub fn seal_database<D: Device>(
     engine: &mut Engine,
     dev: &mut D,
     path: &Text,
     header: &Header,
-) -> Result<(), SealError>
+) -> Result<(), Trouble>
     requires ready { IsReady engine.old }
     requires keeps { KeepsConditions header.now }
     requires standing { D.tells → AreStanding (D.disk dev.old) engine.old.hosting.stores }
@@ -196,7 +197,8 @@ pub fn seal_database<D: Device>(
     ensures stands { D.tells → (w : World) → StandsFor (D.disk dev.old) engine.old w → IsSetNow w header.now → IsApart w header.now.set → OnOk result (StandsFor (D.disk dev.new) engine.new (done w (set_sealed path.now header.now))) }
     ensures crash { D.tells → (w : World) → StandsFor (D.disk dev.old) engine.old w → IsSetNow w header.now → IsApart w header.now.set → Effect IsOurs (CutsAct w (set_sealed path.now header.now)) (D.disk dev.old) (D.disk dev.new) }
     ensures touches { D.tells → TouchesOnly (IsAt path.now) (D.disk dev.old) (D.disk dev.new) }
-    ensures cause { HasCause D.disk_faults D.tell_faults dev.old dev.new (IsErrOf result Fault) }
+    ensures trouble { IfErr result IsPassing }
+    ensures cause { HasCause D.disk_faults D.tell_faults dev.old dev.new (IsErrOf result Trouble.Fault) }
 {
     let staged = engine.begin_set(dev, header.set)?;
     let at = place_of(engine, dev, header)?;
@@ -204,17 +206,17 @@ pub fn seal_database<D: Device>(
     seal_rest(engine, dev, path, at, staged, &rest, header)
 }
 
-/// Copies what is left of a header's database to the set that a backup beside the sessions finishes, and its log, and seals that on the medium at a path. Where the header is that of a set of the database as it is, the set holds what isn't left,
-/// and no backup that runs has it, the instance stands for the world behind that then; a crash leaves the world before it, but for what waited, or the one behind it. The record names no set then.
+/// Copies what is left of a header's database to the set that a backup beside the sessions finishes, and its log, and seals that on the medium at a path. Where it is a set of the database as it is,
+/// and holds what isn't left, the instance stands for the world behind that then; a crash leaves that before it, but for what waited, or that behind it.
 ///
-/// The call ends as if memory were wanting where `seal_database` does, and where the database doesn't stand where it stood as the backup ended.
+/// `NoMemory` comes too where it does of `seal_database`.
 pub fn seal_finishing<D: Device>(
     engine: &mut Engine,
     dev: &mut D,
     path: &Text,
     header: &Header,
     finishing: Finishing,
-) -> Result<(), SealError>
+) -> Result<(), Trouble>
     requires ready { IsReady engine.old }
     requires keeps { KeepsConditions header.now }
     requires set { IsFinishing engine.old finishing }
@@ -228,12 +230,13 @@ pub fn seal_finishing<D: Device>(
     ensures crash { D.tells → (w : World) (is : IsSetNow w header.now) → StandsFor (D.disk dev.old) engine.old w → IsApart w finishing.set → HoldsFront w is.db header.now.checkpoint finishing.rest (D.disk dev.old) finishing.staged
         → Effect IsOurs (CutsAct w (set_sealed path.now header.now)) (D.disk dev.old) (D.disk dev.new) }
     ensures touches { D.tells → TouchesOnly (IsAt path.now) (D.disk dev.old) (D.disk dev.new) }
-    ensures cause { HasCause D.disk_faults D.tell_faults dev.old dev.new (IsErrOf result Fault) }
+    ensures trouble { IfErr result IsPassing }
+    ensures cause { HasCause D.disk_faults D.tell_faults dev.old dev.new (IsErrOf result Trouble.Fault) }
 {
     engine.at_rest(dev);
     let at = place_of(engine, dev, header)?;
     if at != finishing.at {
-        return Err(SealError::NoMemory);
+        return Err(Trouble::NoMemory);
     }
     seal_rest(
         engine,

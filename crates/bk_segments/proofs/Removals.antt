@@ -1,5 +1,5 @@
 -- What removing segments did to the device.
-use Rattle.std.proofs.Common.{◌≡◌, ◌≤◌, ◌<◌, ℕ, zero, suc, ◌+◌, List, [], ◌∷◌, length, Some, None, refl, inl, inr, sym, ap, subst, ◌∙◌, arith}
+use Rattle.std.proofs.Common.{◌≡◌, ◌≤◌, ◌<◌, ◌⊎◌, ℕ, zero, suc, ◌+◌, List, [], ◌∷◌, length, Some, None, refl, inl, inr, sym, ap, subst, ◌∙◌, arith}
 use Rattle.bk_device.specs.Calls.{ChangesNothing}
 use Rattle.bk_device.specs.Compose.{effect_then, effect_widen, effect_none}
 use Rattle.bk_device.specs.Disk.{Files, Disk, IsLawful}
@@ -74,6 +74,17 @@ beside_first db head a b order effect = effect_widen (λ name at. (at.0, omega (
 pub beside_second : (db : ℕ) (head : Head) (a b c : Disk) → head.front ≤ head.back → Effect (IsBetween db head.gone head.front) (λ _. Unit {0}) a b → Effect (IsName (segment_file db (head.back + 1))) (λ _. Unit {0}) b c → Effect (IsBeside db head) (λ _. Unit {0}) a c
 beside_second db head a b c order first second =
     effect_then (beside_first db head a b order first) (effect_widen (λ name at. (head.back + 1, omega arith, inr (omega arith), at)) (λ image here left. tt) second)
+
+-- and then none of these is there
+pub beside_gone : {P : Files → Type 0} (db : ℕ) (head : Head) (b c : Disk) → ((n : ℕ) → head.gone ≤ n → n < head.front → b.files (segment_file db n) ≡ None) → Effect (IsName (segment_file db (head.back + 1))) P b c → c.files (segment_file db (head.back + 1)) ≡ None
+    → (n : ℕ) → head.gone ≤ n → n ≤ head.back + 1 → (n < head.front) ⊎ (head.back < n) → c.files (segment_file db n) ≡ None
+beside_gone db head b c first effect gone n low high beside = elim (same_or_other (segment_file db (head.back + 1)) (segment_file db n)) [
+  | inl same ↦ subst (λ (name : List ℕ). c.files name ≡ None) (sym same) gone
+  | inr other ↦ effect.others (segment_file db n) other ∙ first n low (elim beside [
+    | inl below ↦ below
+    | inr behind ↦ let same : n ≡ head.back + 1 = omega (arith, behind, high) in absurd (other (ap (segment_file db) same))
+  ])
+]
 
 -- none was there
 pub beside_still : (db : ℕ) (head : Head) {a b c : Disk} → IsLawful a → HasNoRest a.files db head → (((n : ℕ) → head.gone ≤ n → n < head.front → a.files (segment_file db n) ≡ None) → ChangesNothing a b) → (b.files (segment_file db (head.back + 1)) ≡ None → ChangesNothing b c) → ChangesNothing a c

@@ -6,9 +6,8 @@ use Rattle.bk_device.specs.Disk.{Disk, IsDurable, IsLawful}
 use Rattle.bk_device.specs.Effects.{Effect, MayLeaveOwn}
 use Rattle.bk_device.specs.Laws.{durable_by_nothing, effect_after_nothing}
 use Rattle.bk_device.specs.Names.{same_or_other}
-use Rattle.bk_segments.specs.declared.head.Head.{Head}
-use Rattle.bk_segments.specs.Files.{control_file, segment_file, AreSettled, Holds, IsOwn, IsUnheld}
-use Rattle.bk_segments.specs.FileLaws.{held_before, held_moved, settled_at}
+use Rattle.bk_segments.specs.Files.{control_file, segment_file, AreSettled, IsOwn, IsUnheld}
+use Rattle.bk_segments.specs.FileLaws.{held_before}
 
 -- what a crash leaves was there
 abbrev pub Left : ℕ → Disk → Disk → Type 0
@@ -40,8 +39,3 @@ settled_none db control none call = record {
   control = durable_by_nothing (control_file db) call control;
   counted = λ head holds n low high. absurd (none head (held_before db head call holds));
 }
-
--- the segments of the head that is there
-pub settled_some : {b c d : Disk} (db : ℕ) (head : Head) → IsDurable b (control_file db) → Holds b.files db head → ChangesNothing b c → ChangesNothing c d → ((n : ℕ) → head.front ≤ n → n < head.back + 1 → IsDurable d (segment_file db n)) → AreSettled db d
-settled_some {d = d} db head control holds first second counted =
-    settled_at db d head (held_moved db head second (held_moved db head first holds)) (durable_by_nothing (control_file db) second (durable_by_nothing (control_file db) first control)) counted

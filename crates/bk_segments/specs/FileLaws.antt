@@ -9,7 +9,6 @@ use Rattle.bk_control.specs.Slots.{control_of}
 use Rattle.bk_device.specs.Calls.{ChangesNothing}
 use Rattle.bk_device.specs.Disk.{Files, Disk, IsDurable}
 use Rattle.bk_device.specs.Effects.{MayLeaveOwn}
-use Rattle.bk_device.specs.Laws.{durable_by_nothing}
 use Rattle.bk_gate.specs.Blobs.{sealed}
 use Rattle.bk_record.specs.Rec.{Rec}
 use Rattle.bk_segments.specs.declared.head.Head.{Head}
@@ -187,9 +186,6 @@ one_held files db head other here there =
 pub held_before : {a b : Disk} (db : ℕ) (head : Head) → ChangesNothing a b → Holds b.files db head → Holds a.files db head
 held_before db head call holds = (holds.0, ap (λ (file : Option (List ℕ)). control_of file >>= read_control) (sym (call.files (control_file db))) ∙ holds.1, holds.2)
 
-pub held_moved : {a b : Disk} (db : ℕ) (head : Head) → ChangesNothing a b → Holds a.files db head → Holds b.files db head
-held_moved db head call holds = (holds.0, ap (λ (file : Option (List ℕ)). control_of file >>= read_control) (call.files (control_file db)) ∙ holds.1, holds.2)
-
 -- what is durable of the segments that this head counts is so of those that count
 pub settled_at : (db : ℕ) (disk : Disk) (head : Head) → Holds disk.files db head → IsDurable disk (control_file db) → ((n : ℕ) → head.front ≤ n → n < head.back + 1 → IsDurable disk (segment_file db n)) → AreSettled db disk
 settled_at db disk head here control counted = record {
@@ -199,13 +195,6 @@ settled_at db disk head here control counted = record {
       let Low : Head → Type 0 = λ h. h.front ≤ n in
       let High : Head → Type 0 = λ h. n ≤ h.back in
       counted n (subst Low (sym same) low) (omega (arith, subst High (sym same) high));
-}
-
--- what changes nothing leaves that durable
-pub settled_moved : {a b : Disk} (db : ℕ) → ChangesNothing a b → AreSettled db a → AreSettled db b
-settled_moved db call settled = record {
-  control = durable_by_nothing (control_file db) call settled.control;
-  counted = λ head holds n low high. durable_by_nothing (segment_file db n) call (settled.counted head (held_before db head call holds) n low high);
 }
 
 -- and leaves the log

@@ -1,9 +1,10 @@
+pub mod BatchLaws
 pub mod Control
-pub mod Records
+pub mod FileLaws
 pub mod Files
 pub mod Making
-pub mod BatchLaws
+pub mod Records
 pub mod RunLaws
-pub mod FileLaws
 pub mod SegmentLaws
+pub mod Troubles
 pub use Rattle.bk_record.specs.Spelling as RecordSpelling

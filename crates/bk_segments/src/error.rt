@@ -1,8 +1,9 @@
 // Why a call on a log gave nothing.
 ghost use Rattle.std.specs.Prelude.{◌≡◌};
+ghost use Rattle.bk_segments.specs.Troubles.{FromLog};
 ghost use Rattle.bk_segments.specs.declared.error.LogError.TheVariants.{Fault, NoMemory};
 
-use bk_device::Failed;
+use bk_device::{Failed, Trouble};
 use std::alloc::AllocError;
 use thiserror::Error;
 
@@ -33,5 +34,17 @@ impl From<AllocError> for LogError {
 
     fn from(_: AllocError) -> LogError {
         LogError::NoMemory
+    }
+}
+
+impl From<LogError> for Trouble {
+    ghost from_gives = { FromLog };
+
+    fn from(error: LogError) -> Self {
+        match error {
+            LogError::Foreign => Trouble::Broken,
+            LogError::Fault => Trouble::Fault,
+            LogError::NoMemory => Trouble::NoMemory,
+        }
     }
 }

@@ -35,8 +35,7 @@ pub fn gather_blobs(file: &[u8], gathers: bool, out: &mut Vec<u8>) -> Result<(),
     if !gathers {
         return Ok(());
     }
-    add_blobs(file, out)?;
-    Ok(())
+    add_blobs(file, out)
 }
 
 // Adds the bytes of all blobs of the segment of this number, which has none where it is no gate file.

@@ -62,8 +62,7 @@ pub fn tidy<D: Device>(alloc: Global, dev: &mut D, db: u32, head: Head) -> Resul
     ensures cause { HasCause D.disk_faults D.tell_faults dev.old dev.new (IsErrOf result LogError.Fault) }
 {
     remove_segments(alloc, dev, db, head.gone, head.front)?;
-    remove_segment(alloc, dev, db, head.back + 1)?;
-    Ok(())
+    remove_segment(alloc, dev, db, head.back + 1)
 }
 
 // The name of a segment's file.
@@ -82,8 +81,7 @@ fn remove_one<D: Device>(dev: &mut D, segments: &[Segment], i: usize) -> Result<
     ensures cause { HasCause D.disk_faults D.tell_faults dev.old dev.new (IsErr result) }
 {
     let name = name_of(segments, i);
-    remove_durably(dev, name)?;
-    Ok(())
+    remove_durably(dev, name)
 }
 
 /// Removes segments.

@@ -72,6 +72,5 @@ pub fn settle<D: Device>(alloc: Global, dev: &mut D, db: u32) -> Result<(), LogE
     let Some(head) = find_head(alloc, dev, db)? else {
         return Ok(());
     };
-    sync_segments(alloc, dev, db, head.front, head.back + 1)?;
-    Ok(())
+    sync_segments(alloc, dev, db, head.front, head.back + 1)
 }

@@ -104,8 +104,7 @@ fn walk_file(file: &[u8], from: u64) -> Option<u64>
     if !has_blob(file) {
         return None;
     }
-    let to = walk_blobs(file, from)?;
-    Some(to)
+    walk_blobs(file, from)
 }
 
 // The number behind that of the last record of the segment of this number, which has a blob. Gathers the bytes of its blobs where `gathers` says so.

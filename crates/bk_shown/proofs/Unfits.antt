@@ -10,8 +10,8 @@ use Rattle.bk_world.specs.SoundLogs.{MayCome}
 use Rattle.bk_world.specs.Telling as telling
 use Rattle.bk_world.specs.declared.database.FileSpec.{FileSpec}
 use Rattle.bk_world.specs.declared.database.TableSpec.{TableSpec}
-use Rattle.bk_shown.specs.Shown.{IsPlaced, NeedsMemory, Shows}
-use Rattle.bk_shown.specs.Steps.{IsUnfit, IsUnfitReserved, MayLie}
+use Rattle.bk_shown.specs.Shown.{IsPlaced, Shows}
+use Rattle.bk_shown.specs.Steps.{IsUnfit, MayLie}
 use Rattle.bk_shown.specs.Writes.{lacks_entry}
 use Rattle.bk_shown.specs.declared.shown.Shown.{Shown}
 use Rattle.bk_lemmas.specs.Tests.{clash}
@@ -41,19 +41,3 @@ module _ (files : List FileSpec) (rs : List Logged) (n begin : ℕ) (s : Shown) 
   fits (stamped time set) may placed unfit = unfit
   fits (model_set time model) may placed unfit = unfit
   fits (recovered branch) may placed unfit = unfit
-
-  -- one that isn't taken without memory is of a kind that needs it
-  pub grows : (d : Deed) → MayCome rs n begin d → IsPlaced files (telling.tables rs) d → IsUnfitReserved begin (body_of d) s → NeedsMemory d
-  grows d may placed (inr unfit) = absurd (fits d may placed unfit)
-  grows (table_made time spec) may placed (inl grown) = tt
-  grows (written at before c) may placed (inl grown) = tt
-  grows (loaded load) may placed (inl grown) = tt
-  grows (committed time mark) may placed (inl grown) = grown
-  grows rolled_back may placed (inl grown) = grown
-  grows (undone at c k) may placed (inl grown) = grown
-  grows (database_made time family branch) may placed (inl grown) = grown
-  grows begun may placed (inl grown) = grown
-  grows (checkpointed time) may placed (inl grown) = grown
-  grows (stamped time set) may placed (inl grown) = grown
-  grows (model_set time model) may placed (inl grown) = grown
-  grows (recovered branch) may placed (inl grown) = grown

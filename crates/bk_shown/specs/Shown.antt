@@ -99,13 +99,6 @@ pub record IsNext (files : List FileSpec) (rs : List Logged) (r : Logged) : Type
   pub may : MayCome rs r.lsn r.begin r.deed
   pub placed : IsPlaced files (telling.tables rs) r.deed
 
--- a record of this kind may need memory to be taken in
-abbrev pub NeedsMemory : Deed → Type 0
-NeedsMemory (table_made time spec) = Unit {0}
-NeedsMemory (written at before c) = Unit {0}
-NeedsMemory (loaded load) = Unit {0}
-NeedsMemory _ = ⊥
-
 -- some records may come next, one behind the other
 abbrev pub AreNext : List FileSpec → List Logged → List Logged → Type 0
 AreNext files rs [] = Unit {0}

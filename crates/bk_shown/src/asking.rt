@@ -76,13 +76,6 @@ impl Shown {
         self.groups.free_cell(table)
     }
 
-    /// Whether a row is committed.
-    pub fn has(&self, table: u32, key: u64) -> bool
-        ensures { (files : List FileSpec) (rs : List Logged) → Shows files rs self.now → result ≡ is_some (row_at (telling.rows rs table) key) }
-    {
-        self.rows.has(table, key)
-    }
-
     /// The committed value of a row, if it is there.
     pub fn value(&self, table: u32, key: u64) -> Option<&Value>
         ensures { (files : List FileSpec) (rs : List Logged) → Shows files rs self.now → option_map (λ text. text.now) result ≡ row_at (telling.rows rs table) key }

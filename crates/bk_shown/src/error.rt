@@ -19,7 +19,7 @@ pub enum TakeError {
 /// A record can't come behind the records that were taken in.
 #[derive(Clone, Copy, Debug, PartialEq, Eq, Error)]
 #[error("the record can't come next")]
-pub struct NotNext;
+pub(crate) struct NotNext;
 
 impl From<NotNext> for TakeError {
     ghost from_gives = { λ _ e. e ≡ Unfit };

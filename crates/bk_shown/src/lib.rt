@@ -13,7 +13,7 @@ mod shown;
 mod taking;
 mod writing;
 
-pub use error::{NotNext, TakeError};
+pub use error::TakeError;
 pub use laws::placed_logs;
 pub use pending::pending_in;
 pub use rows::Rows;

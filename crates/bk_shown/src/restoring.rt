@@ -61,8 +61,7 @@ impl Shown {
         ensures unfit { IsErrOf result Unfit → (files : List FileSpecs) → HasRows files [] [] self.old → AreNumbered 1 tables.now → MayHold files rows.now → ⊥ }
     {
         self.add_tables(tables)?;
-        self.add_rows(rows)?;
-        Ok(())
+        self.add_rows(rows)
     }
 
     // These writes are pending, one behind the other, each in its row's cell.

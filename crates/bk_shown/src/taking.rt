@@ -5,7 +5,7 @@ ghost use Rattle.bk_record.specs.View.{record_of, body_of};
 ghost use Rattle.bk_undo.specs.Spelled.{spelled};
 ghost use Rattle.bk_world.specs.declared.database.FileSpec.{FileSpec};
 ghost use Rattle.bk_world.specs.Records.{Logged};
-ghost use Rattle.bk_shown.specs.Shown.{Shows, IsNext, NeedsMemory};
+ghost use Rattle.bk_shown.specs.Shown.{Shows, IsNext};
 ghost use Rattle.bk_shown.specs.Steps.{IsUnfit, IsUnfitReserved, MakesTable, MayMake, TakesBody, model_behind, time_behind};
 ghost use Rattle.bk_shown.specs.declared.error.TakeError.TheVariants.{Unfit};
 
@@ -126,24 +126,6 @@ impl Shown {
             | BodyRef::Model { time, .. } => self.time = time,
             _ => {}
         }
-    }
-
-    /// Takes one log record more in, and takes no memory: a record of any kind but that of a table made, a write or a
-    /// minimal load. The error comes only where the record can't come behind those that were taken in, or is of these
-    /// three kinds; after it nothing is promised of what is kept.
-    pub fn take_reserved(&mut self, taken: RecRef<'_>) -> Result<(), NotNext>
-        ensures next { OnOk result ((files : List FileSpec) (rs : List Logged) (r : Logged) → Shows files rs self.old → IsNext files rs r → record_of taken.entry ≡ spelled r → Shows files (rs ++ r ∷ []) self.new) }
-        ensures unfit { OnErr result ((files : List FileSpec) (rs : List Logged) (r : Logged) → Shows files rs self.old → IsNext files rs r → record_of taken.entry ≡ spelled r → NeedsMemory r.deed) }
-    {
-        if taken.lsn != self.end || self.end >= LAST_NUMBER {
-            return Err(NotNext);
-        }
-        let end = self.end + 1;
-        self.take_body_reserved(taken)?;
-        self.take_model(taken.body);
-        self.take_time(taken.body);
-        self.end = end;
-        Ok(())
     }
 
     /// Takes one log record more in. `Unfit` comes only where the record can't come behind those that were taken in, or is

@@ -8,7 +8,7 @@ use Rattle.std.proofs.lemmas.Option.{slice_get_within}
 use Rattle.bk_bytes.specs.Field.{number_of, bytes_of, with_field}
 use Rattle.bk_bytes.specs.FieldLaws.{length-bytes_of, number_of-bytes_of}
 use Rattle.bk_device.specs.Calls.{contents, read_at, filled, written, LeavesWrite, LeavesSame, CallsOn, ChangesNothing}
-use Rattle.bk_device.specs.Compose.{effect_none, effect_weaken, effect_then_sync}
+use Rattle.bk_device.specs.Compose.{effect_weaken, effect_then_sync}
 use Rattle.bk_device.specs.Disk.{Disk, IsDurable, IsLawful}
 use Rattle.bk_device.specs.Effects.{Effect, IsName, MayLeaveOwn}
 use Rattle.bk_device.specs.Laws.{call_after_nothing, effect_after_nothing, filled_whole}
@@ -21,10 +21,10 @@ use Rattle.bk_gate.specs.Laws.{gate_sealed}
 use Rattle.bk_page.specs.Page.{part, fresh_page}
 use Rattle.bk_page.specs.PartLaws.{part-with_field, part-with_field_before, length-with_field, number_of-part}
 use Rattle.bk_side.specs.Names.{name_of, IsData}
-use Rattle.bk_side.specs.Pages.{Entry, page_in, page_of, entry_of}
+use Rattle.bk_side.specs.Pages.{Entry, page_in, entry_of}
 use Rattle.bk_side.specs.Making.{IsFreshFile}
 use Rattle.bk_side.specs.Writing.{WritesPage, PutsPage, PutsEntry}
-use Rattle.bk_side.specs.BatchLaws.{content_at, content_none}
+use Rattle.bk_side.specs.BatchLaws.{content_at}
 
 -- ---- reading
 
@@ -71,22 +71,7 @@ entry_put names e file page name bytes a b place is at puts =
       | inr wrote ↦ inr (name, at, wrote.0, wrote.1)
     ]))
 
-pub no_entry : (names : List (List ℕ)) (e : Entry) (file page : ℕ) (a b : Disk) → (file, page) ≡ e.0 → name_of names file ≡ None → ChangesNothing a b → PutsEntry names e a b
-no_entry names e file page a b place none nothing =
-    let At : ℕ × ℕ → Type 0 = λ p. length (page_of names a.files p) ≢ 8192 in
-    inl (subst At place (λ whole. page_short [] page (omega arith) (ap (λ (c : List ℕ). length (page_in c page)) (sym (content_none names a.files file none)) ∙ whole)), nothing)
-
 -- ---- the bytes of an entry
-
-pub entry_size : (file page : ℕ) (bytes zeros : List ℕ) → length bytes ≡ 8192 → length zeros ≡ 8198 → length (with_field (with_field (with_field zeros 0 (bytes_of 2 file)) 2 (bytes_of 4 page)) 6 bytes) ≡ 8198
-entry_size file page bytes zeros whole size =
-    let two : length (bytes_of 2 file) ≡ 2 = length-bytes_of 2 file in
-    let four : length (bytes_of 4 page) ≡ 4 = length-bytes_of 4 page in
-    let first : List ℕ = with_field zeros 0 (bytes_of 2 file) in
-    let first_size : length first ≡ 8198 = length-with_field zeros 0 (bytes_of 2 file) (omega arith) ∙ size in
-    let second : List ℕ = with_field first 2 (bytes_of 4 page) in
-    let second_size : length second ≡ 8198 = length-with_field first 2 (bytes_of 4 page) (omega arith) ∙ first_size in
-    length-with_field second 6 bytes (omega arith) ∙ second_size
 
 pub entry_spelled : (file page : ℕ) (bytes zeros : List ℕ) → file < 2 ^ 16 → page < 2 ^ 32 → length bytes ≡ 8192 → length zeros ≡ 8198
     → entry_of (with_field (with_field (with_field zeros 0 (bytes_of 2 file)) 2 (bytes_of 4 page)) 6 bytes) ≡ ((file, page), bytes)
@@ -117,13 +102,6 @@ pub record Syncing (names : List (List ℕ)) (i : ℕ) (a b : Disk) : Type 0 whe
   pub same : (name : List ℕ) → b.files name ≡ a.files name
   pub durable : (j : ℕ) (name : List ℕ) → j < i → slice_get names j ≡ Some name → IsDurable b name
   pub effect : Effect (IsData names) (MayLeaveOwn (IsData names) a) a b
-
-pub syncing_begins : (names : List (List ℕ)) (a : Disk) → Syncing names 0 a a
-syncing_begins names a = record {
-  same = λ name. refl;
-  durable = λ j name below at. absurd (omega (arith, below));
-  effect = effect_none a (λ image mine. mine);
-}
 
 pub syncing_effect : {names : List (List ℕ)} {i : ℕ} {a b c : Disk} (name : List ℕ) → Syncing names i a b → slice_get names i ≡ Some name → CallsOn name LeavesSame b c → Effect (IsData names) (MayLeaveOwn (IsData names) a) a c
 syncing_effect {i = i} name is at call = effect_then_sync is.effect (suc i, at) call
@@ -156,9 +134,6 @@ syncing_ends {names} {i} {a} {b} is last name data' = go data'.0 data'.1
     go (suc j) there = is.durable j name (omega (arith, slice_get_within names j name there, last)) there
 
 -- ---- making a data file
-
-pub fresh_none : (file : ℕ) (content : List ℕ) → content ≡ [] → IsFreshFile file 0 content
-fresh_none file content none = record { size = ap length none; fresh = λ number below. absurd (omega (arith, below)) }
 
 pub fresh_more : (file number : ℕ) (content new page : List ℕ) (at : ℕ) → IsFreshFile file number content → at ≡ 8192 * number → page ≡ fresh_page file number → length page ≡ 8192 → new ≡ written content at page → IsFreshFile file (number + 1) new
 fresh_more file number content new page at is place paged whole wrote =

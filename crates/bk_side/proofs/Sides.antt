@@ -145,9 +145,6 @@ others_show a b side file name is at effect p differ =
 begun_same : (a b : Disk) (gate : KeptGate) → KeepsFiles (IsName gate.name) a b → begun_of b gate ≡ begun_of a gate
 begun_same a b gate keeps = ap (λ (f : Option (List ℕ)). read_at (contents f) (gate.end + 9) (unwrap_or gate.begun 0)) (keeps.same gate.name refl)
 
-pub others_added : {P : Files → Type 0} (a b : Disk) (side : Kept) (file : ℕ) (name : List ℕ) → IsSide a side → name_of side.names file ≡ Some name → Effect (IsName name) P a b → added_of b side ≡ added_of a side
-others_added a b side file name is at effect = ap entries_of (begun_same a b side.gate (side_keeps a b side file name is at effect))
-
 pub others_side : {P : Files → Type 0} (a b : Disk) (side : Kept) (file : ℕ) (name : List ℕ) (failed : Bool) → IsSide a side → name_of side.names file ≡ Some name → Effect (IsName name) P a b → IsDurable b name → IsSide b (record side { failed = failed })
 others_side a b side file name failed is at effect durable =
     let keeps = side_keeps a b side file name is at effect in

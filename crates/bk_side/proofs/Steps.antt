@@ -1,7 +1,7 @@
 -- Copying the pages of a sealed batch.
 use Rattle.std.proofs.Common.{◌≡◌, ◌≢◌, ◌⊎◌, ◌<◌, ◌≤◌, ◌+◌, ◌*◌, ◌/◌, ℕ, zero, suc, List, [], ◌∷◌, length, drop, Option, Some, refl, inl, inr, sym, ap, subst, ◌∙◌, arith}
 use Rattle.bk_device.specs.Calls.{contents, read_at, written, IsTorn, LeavesWrite, ChangesNothing}
-use Rattle.bk_device.specs.Compose.{effect_none, effect_weaken, effect_then_nothing, effect_then_step}
+use Rattle.bk_device.specs.Compose.{effect_weaken, effect_then_nothing, effect_then_step}
 use Rattle.bk_device.specs.Disk.{Files, Disk, IsDurable, IsLawful}
 use Rattle.bk_device.specs.Effects.{Effect, MayLeaveOwn}
 use Rattle.bk_device.specs.Laws.{durable_by_nothing}
@@ -44,9 +44,6 @@ stays_same side names files image same =
       pages = λ at. ap (λ (c : List ℕ). batched (batch_of (files side)) at (page_in c at.1)) (content at.0);
     }
 
-pub stays_left : (side : List ℕ) (names : List (List ℕ)) (a : Disk) (image : Files) → AreDurable (IsOwn side names) a → MayLeaveOwn (IsOwn side names) a image → Stays side names a.files image
-stays_left side names a image durable mine = stays_same side names a.files image (λ name own. durable name own (image name) (mine name own))
-
 -- a page of the batch is written, or in part
 write_stays : (side : List ℕ) (names : List (List ℕ)) (files : Files) (e : Entry) (name : List ℕ) → AreApart side names → name_of names e.0.0 ≡ Some name → HasPage e.0 (batch_of (files side))
     → 8192 * e.0.1 + 8192 ≤ length (content_of names files e.0.0)
@@ -82,14 +79,6 @@ pub record Copying (side : List ℕ) (names : List (List ℕ)) (at len i : ℕ) 
   pub effect : Effect (IsOwn side names) (Stays side names a.files) a b
   pub done : (p : ℕ × ℕ) → batched (drop i (batch_at side at len a)) p (page_of names b.files p) ≡ shown side names a.files p
 
-pub copying_begins : (side : List ℕ) (names : List (List ℕ)) (at len : ℕ) (a : Disk) → AreDurable (IsOwn side names) a → batch_of (a.files side) ≡ batch_at side at len a → Copying side names at len 0 a a
-copying_begins side names at len a durable batch = record {
-  same = refl;
-  durable = durable side (inl refl);
-  effect = effect_none a (λ image mine. stays_left side names a image durable mine);
-  done = λ p. ap (λ (es : List Entry). batched es p (page_of names a.files p)) (sym batch);
-}
-
 now_stays : {side : List ℕ} {names : List (List ℕ)} {at len i : ℕ} {a b : Disk} → IsLawful b → Copying side names at len i a b → Stays side names a.files b.files
 now_stays {b = b} lawful is = is.effect.now b.files (λ name _. lawful.reads name)
 
@@ -113,9 +102,6 @@ head_is : {side : List ℕ} {names : List (List ℕ)} {at len i : ℕ} {a b : Di
 head_is {side} {names} {at} {len} {i} {a} {b} is below inside =
     entry_read (contents (a.files side)) at len i below inside
     ∙ ap (λ (f : Option (List ℕ)). entry_of (read_at (contents f) (at + 8198 * i) 8198) ∷ drop (i + 1) (batch_at side at len a)) (sym is.same)
-
-pub copying_room : {side : List ℕ} {names : List (List ℕ)} {at len i : ℕ} {a b : Disk} → Copying side names at len i a b → i < len / 8198 → at + len ≤ length (contents (a.files side)) → at + 8198 * i + 8198 ≤ length (contents (b.files side))
-copying_room is below inside = omega (arith, below, inside, ap (λ (f : Option (List ℕ)). length (contents f)) is.same)
 
 module _ {side : List ℕ} {names : List (List ℕ)} {at len i : ℕ} {a b : Disk} (apart : AreApart side names) (lawful : IsLawful b) (is : Copying side names at len i a b)
     (below : i < len / 8198) (inside : at + len ≤ length (contents (a.files side))) (batch : batch_of (a.files side) ≡ batch_at side at len a) where

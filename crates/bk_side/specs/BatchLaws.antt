@@ -112,11 +112,6 @@ pub batched_last : (batch : List Entry) (e : Entry) (at : ℕ × ℕ) (page : Li
 batched_last [] e at page = refl
 batched_last (d ∷ batch) e at page = batched_last batch e at (put d at page)
 
--- a page for which the batch has no entry stays
-pub batched_none : (batch : List Entry) (at : ℕ × ℕ) (page : List ℕ) → (HasPage at batch → ⊥) → batched batch at page ≡ page
-batched_none [] at page none = refl
-batched_none (e ∷ batch) at page none = ap (batched batch at) (put_other e at page (λ same. none (inl same))) ∙ batched_none batch at page (λ has. none (inr has))
-
 -- what files hold by number
 
 pub content_at : (names : List (List ℕ)) (files : Files) (file : ℕ) (name : List ℕ) → name_of names file ≡ Some name → content_of names files file ≡ contents (files name)

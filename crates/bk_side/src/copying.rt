@@ -23,10 +23,9 @@ fn write_page<D: Device>(dev: &mut D, name: &str, page: u32, bytes: &[u8]) -> Re
 {
     let at = 8192 * u64::from(page);
     match dev.len(name)? {
-        Some(len) if at + 8192 <= len => dev.write(name, at, bytes)?,
-        _ => {}
+        Some(len) if at + 8192 <= len => dev.write(name, at, bytes),
+        _ => Ok(()),
     }
-    Ok(())
 }
 
 // Writes the page of an entry, where it lies whole in its file.
@@ -36,10 +35,10 @@ fn copy_entry<D: Device>(dev: &mut D, names: &[Text], entry: &[u8; 8198]) -> Res
     ensures cause { HasCause D.disk_faults D.tell_faults dev.old dev.new (IsErr result) }
 {
     let (file, page) = place_of(entry);
-    if let Some(name) = name_of(names, file) {
-        write_page(dev, name, page, page_bytes(entry))?;
-    }
-    Ok(())
+    let Some(name) = name_of(names, file) else {
+        return Ok(());
+    };
+    write_page(dev, name, page, page_bytes(entry))
 }
 
 // Reads an entry of the side file. Changes nothing.
@@ -109,6 +108,5 @@ pub fn sync_own<D: Device>(dev: &mut D, side: &str, names: &[Text]) -> Result<()
     ensures cause { HasCause D.disk_faults D.tell_faults dev.old dev.new (IsErr result) }
 {
     sync_files(dev, names)?;
-    dev.sync(side)?;
-    Ok(())
+    dev.sync(side)
 }

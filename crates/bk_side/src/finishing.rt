@@ -43,8 +43,7 @@ pub fn finish<D: Device>(gate: &mut Gate, dev: &mut D, names: &[Text]) -> Result
     let (at, len) = gate.span(0);
     copy_entries(dev, gate.name(), names, at, len)?;
     sync_files(dev, names)?;
-    gate.clear(dev)?;
-    Ok(())
+    gate.clear(dev)
 }
 
 // Makes the files durable, opens the side file, makes it where there is none, and finishes a batch that is sealed. Where it is there

@@ -18,8 +18,7 @@ fn append_page<D: Device>(dev: &mut D, name: &str, file: u16, number: u32) -> Re
 {
     let mut page = [0u8; 8192];
     format_page(&mut page, file, number);
-    dev.write(name, 8192 * u64::from(number), &page)?;
-    Ok(())
+    dev.write(name, 8192 * u64::from(number), &page)
 }
 
 // Writes so many fresh pages in place of what was under this name, and syncs them. A crash may leave anything there.
@@ -33,6 +32,5 @@ pub fn make_file<D: Device>(dev: &mut D, name: &str, file: u16, pages: u32) -> R
     'pages: for number in 0..pages {
         append_page(dev, name, file, number)?;
     }
-    dev.sync(name)?;
-    Ok(())
+    dev.sync(name)
 }

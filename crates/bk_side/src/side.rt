@@ -43,10 +43,10 @@ impl Model for Side {
 }
 
 impl Side {
-    /// Opens the side file of a database whose data files are at these paths, and makes it where there is none. What the files
-    /// hold is made durable first, and a batch that is sealed is finished: no page counts as another one behind that, nor at any
-    /// crash meanwhile. Where the side file is there with no batch sealed in it, nothing is changed. All the room is made that `add`
-    /// and `apply` need. No two data files have one name.
+    /// Opens the side file of a database whose data files, of different names, are at these paths, and makes it where there is none.
+    /// What the files hold is made durable first, and a sealed batch is finished: no page counts as another one behind that, nor at
+    /// any crash meanwhile. Where the side file is there without such a batch, nothing is changed. All the room is made that `add`
+    /// and `apply` need.
     pub fn load<D: Device>(
         alloc: Global,
         dev: &mut D,
@@ -146,8 +146,7 @@ impl Side {
         ensures effect { D.tells → ChangesNothing (D.disk dev.old) (D.disk dev.new) }
         ensures cause { HasCause D.disk_faults D.tell_faults dev.old dev.new (IsErr result) }
     {
-        let is_sound = read_page(dev, &self.names, file, number, page)?;
-        Ok(is_sound)
+        read_page(dev, &self.names, file, number, page)
     }
 
     /// Reads a page, whatever digest it stores. Answers whether it is whole in its data file: then its bytes stand in the buffer,
@@ -165,8 +164,7 @@ impl Side {
         ensures effect { D.tells → ChangesNothing (D.disk dev.old) (D.disk dev.new) }
         ensures cause { HasCause D.disk_faults D.tell_faults dev.old dev.new (IsErr result) }
     {
-        let is_whole = read_plain(dev, &self.names, file, number, page)?;
-        Ok(is_whole)
+        read_plain(dev, &self.names, file, number, page)
     }
 
     /// Makes a data file of so many pages, each as it is before any log record, in place of what was there. There is a data file of

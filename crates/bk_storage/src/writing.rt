@@ -17,8 +17,7 @@ pub fn append_name(out: &mut Vec<u8>, name: &Name) -> Result<(), AllocError>
     ensures fits { OnOk result (IsString 1 64 name.now) }
 {
     let text = name.as_str();
-    append_text(out, text.as_bytes())?;
-    Ok(())
+    append_text(out, text.as_bytes())
 }
 
 fn append_path(out: &mut Vec<u8>, path: &Text) -> Result<(), AllocError>
@@ -28,8 +27,7 @@ fn append_path(out: &mut Vec<u8>, path: &Text) -> Result<(), AllocError>
     ensures fits { OnOk result (IsString 1 100 path.now) }
 {
     let text = path.as_str();
-    append_text(out, text.as_bytes())?;
-    Ok(())
+    append_text(out, text.as_bytes())
 }
 
 fn append_spec(out: &mut Vec<u8>, file: &FileSpec) -> Result<(), AllocError>
@@ -41,8 +39,7 @@ fn append_spec(out: &mut Vec<u8>, file: &FileSpec) -> Result<(), AllocError>
     append_u8(out, file.group)?;
     append_u32(out, file.extents)?;
     append_name(out, &file.name)?;
-    append_path(out, &file.path)?;
-    Ok(())
+    append_path(out, &file.path)
 }
 
 fn append_groups(out: &mut Vec<u8>, groups: &[Name]) -> Result<(), AllocError>
@@ -79,6 +76,5 @@ pub fn append_storage(out: &mut Vec<u8>, storage: &Storage) -> Result<(), AllocE
     append_groups(out, storage.groups.as_slice())?;
     append_files(out, storage.files.as_slice())?;
     append_name(out, &storage.log_name)?;
-    append_path(out, &storage.log_path)?;
-    Ok(())
+    append_path(out, &storage.log_path)
 }

@@ -1,5 +1,6 @@
 -- A database as it is made.
-use Rattle.std.proofs.Common.{◌≡◌, ◌<◌, ◌^◌, ℕ, ◌⊎◌, List, [], ◌++◌, Option, Some, None, map, refl, sym, ◌∙◌, ap, subst, arith, lit<, inl, inr}
+use Rattle.std.proofs.Common.{◌≡◌, ◌<◌, ◌^◌, ℕ, ◌⊎◌, List, [], ◌++◌, Option, Some, None, Result, Ok, Err, map, refl, sym, ◌∙◌, ap, subst, arith, lit<, inl, inr}
+use Rattle.std.specs.Prelude.{IfOk, IsErrOf, MatchResult, OnOk}
 use Rattle.bk_bytes.specs.Codec.{◌>>=◌}
 use Rattle.bk_control.specs.Slots.{control_of}
 use Rattle.bk_device.specs.Compose.{effect_none, effect_weaken}
@@ -9,6 +10,7 @@ use Rattle.bk_facts.specs.declared.facts.DataFile.{DataFile}
 use Rattle.bk_ids.specs.declared.guid.Guid.{Guid}
 use Rattle.bk_known.specs.declared.known.DatabaseSpec.{DatabaseSpec}
 use Rattle.bk_known.specs.Known.{IsKnown, KeepsKnown, known_bytes}
+use Rattle.bk_lemmas.specs.Tests.{same_error}
 use Rattle.bk_paged.specs.Holds.{Holds, Stood, unwritten}
 use Rattle.bk_paged.specs.Making.{HoldsNone}
 use Rattle.bk_paged.specs.Names.{IsOwn}
@@ -20,6 +22,8 @@ use Rattle.bk_shown.specs.declared.shown.Shown.{Shown}
 use Rattle.bk_world.specs.Records.{Logged, database_made}
 use Rattle.bk_world.specs.Telling as telling
 use Rattle.bk_world.specs.Telling.{entries}
+use Rattle.bk_store.specs.declared.error.StoreError.{StoreError}
+use Rattle.bk_store.specs.declared.error.StoreError.TheVariants.{Fault}
 use Rattle.bk_store.specs.Making.{Makes, MayDescribe, first_known, founding}
 use Rattle.bk_store.specs.Store.{Crashes, IsStore, Kept, at_end}
 use Rattle.bk_store.specs.Told.{IsAsOf, IsLogIn, IsNoted, Told, data_file, said, stood_of, unsaid}
@@ -113,3 +117,12 @@ pub making-then : (s : Kept) (db : ℕ) (told : Told) (b c : Disk) → s.paged.l
 making-then s db told b c same effect =
     let Db : ℕ → Type 0 = λ n. Makes n told b c in
     subst Db same (effect_weaken (λ image here. inr (here.0, omega arith, here.2)) effect)
+
+-- a value that is given unless what was done to it has failed
+pub unless-ok : {X T E : Type 0} (done : Result X E) (r : Result T E) (v : T) (P : T → Type 0) → MatchResult done (λ _. r ≡ Ok v) (λ e. r ≡ Err e) → OnOk done (P v) → IfOk r P
+unless-ok (Ok _) r v P is holds = subst (λ (q : Result _ _). IfOk q P) (sym is) holds
+unless-ok (Err e) r v P is holds = subst (λ (q : Result _ _). IfOk q P) (sym is) tt
+
+pub unless-fault : {X T : Type 0} (done : Result X StoreError) (r : Result T StoreError) (v : T) → MatchResult done (λ _. r ≡ Ok v) (λ e. r ≡ Err e) → IsErrOf r Fault → IsErrOf done Fault
+unless-fault {T = T} (Ok _) r v is fault = let no : ◌≡◌ {A = Result T StoreError} (Ok v) (Err Fault) = sym is ∙ fault in absurd cc
+unless-fault {X} {T} (Err e) r v is fault = let same : IsErrOf {T = T} (Err e) Fault = sym is ∙ fault in same_error {T = T} {U = X} e Fault same

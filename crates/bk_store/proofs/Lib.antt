@@ -4,7 +4,3 @@ mod Floors
 mod Founded
 mod More
 mod Renoted
-mod Rolled
-mod Spared
-mod Undone
-mod Written

@@ -1,4 +1,3 @@
-pub mod CellLaws
 pub mod Copying
 pub mod CutLaws
 pub mod Cutting
@@ -7,10 +6,8 @@ pub mod FrontLaws
 pub mod LiftLaws
 pub mod Making
 pub mod Recent
-pub mod Reserved
-pub mod Rolling
 pub mod Store
 pub mod Told
 pub mod TouchLaws
+pub mod Troubles
 pub mod Viewing
-pub mod Writing

@@ -1,11 +1,12 @@
 // Why a call on a store gave nothing.
 ghost use Rattle.std.specs.Prelude.{◌≡◌};
 ghost use Rattle.bk_store.specs.Errors.{FromPaged};
+ghost use Rattle.bk_store.specs.Troubles.{FromStore};
 ghost use Rattle.bk_store.specs.declared.error.StoreError.TheVariants.{Fault, NoMemory};
 
-use bk_device::Failed;
+use bk_device::{Failed, Trouble};
 use bk_paged::PagedError;
-use bk_shown::{NotNext, TakeError};
+use bk_shown::TakeError;
 use std::alloc::{AllocError, AllocFailed};
 use thiserror::Error;
 
@@ -44,14 +45,6 @@ impl From<TakeError> for StoreError {
     }
 }
 
-impl From<NotNext> for StoreError {
-    ghost from_gives = { λ _ e. e ≡ NoMemory };
-
-    fn from(_: NotNext) -> Self {
-        StoreError::NoMemory
-    }
-}
-
 impl From<Failed> for StoreError {
     ghost from_gives = { λ _ e. e ≡ Fault };
 
@@ -67,6 +60,17 @@ impl From<PagedError> for StoreError {
         match error {
             PagedError::Foreign | PagedError::NoMemory => StoreError::NoMemory,
             PagedError::Fault => StoreError::Fault,
+        }
+    }
+}
+
+impl From<StoreError> for Trouble {
+    ghost from_gives = { FromStore };
+
+    fn from(error: StoreError) -> Self {
+        match error {
+            StoreError::Fault => Trouble::Fault,
+            StoreError::NoMemory => Trouble::NoMemory,
         }
     }
 }

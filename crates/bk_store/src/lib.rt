@@ -2,22 +2,16 @@
 #![tactic(auto)]
 
 mod asking;
-mod calls;
 mod copying;
-mod ending;
 mod error;
+mod founding;
 mod making;
 mod noting;
 mod recent;
-mod reserved;
-mod rolling;
 mod saying;
 mod store;
-mod undoing;
 mod view;
-mod writing;
 
-pub use ending::{commit_bytes, end_bytes, undo_bytes};
 pub use error::StoreError;
 pub use noting::copy_tables;
 pub use recent::{Recent, told_behind};

@@ -1,5 +1,5 @@
 // Making a database, and removing one.
-ghost use Rattle.std.specs.Prelude.{◌≡◌, ◌≤◌, [], List, None, false, map, IfOk, OnOk, IsErrOf};
+ghost use Rattle.std.specs.Prelude.{◌≡◌, ◌≤◌, [], List, None, Ok, Err, false, map, IfOk, MatchResult, OnOk, IsErrOf};
 ghost use Rattle.bk_control.specs.Slots.{control_of};
 ghost use Rattle.bk_device.specs.Counts.{HasCause};
 ghost use Rattle.bk_device.specs.Disk.{IsDurable};
@@ -93,6 +93,14 @@ fn make_paged<D: Device>(
     Ok(paged)
 }
 
+// A value, unless what was done to it has failed.
+fn unless_failed<T: Drop>(value: T, done: Result<(), StoreError>) -> Result<T, StoreError>
+    ensures { MatchResult done (λ _. result ≡ Ok value) (λ e. result ≡ Err e) }
+{
+    done?;
+    Ok(value)
+}
+
 impl Store {
     // Makes a database without a record.
     fn make<D: Device>(
@@ -123,9 +131,9 @@ impl Store {
         })
     }
 
-    /// Makes a database of this description with one record, that it was made at this time, in milliseconds since 1970-01-01 00:00:00 UTC, on this branch; that is durable then. No log of this
-    /// number is there. Pages are kept in so many frames, at least one. A crash leaves no database, or this one, or this one without a record, which stands for no database that was made and is to be
-    /// removed. `NoMemory` may come after files were touched; it comes where two data files have one path.
+    /// Makes a database of this description, durably, with one record: that it was made at this time, in milliseconds since 1970-01-01 00:00:00 UTC, on this branch. No log of this number is there. Pages are
+    /// kept in so many frames, at least one. A crash leaves none, or this one, or this one without a record, which is to be removed. `NoMemory` may come after files were touched, also where two data files
+    /// have one path.
     pub fn create<D: Device>(
         alloc: Global,
         dev: &mut D,
@@ -147,8 +155,8 @@ impl Store {
     {
         let family = spec.family;
         let mut store = Store::make(alloc, dev, db, spec, frames)?;
-        store.found(alloc, dev, time, family, branch)?;
-        Ok(store)
+        let done = store.found(alloc, dev, time, family, branch);
+        unless_failed(store, done)
     }
 
     /// Removes the data files that the log of a database names, then the side file, and then the log. Where the log isn't whole, as after a crash in this call, what is left of it alone is removed;

@@ -195,10 +195,9 @@ impl Store {
         Ok(())
     }
 
-    /// Makes a checkpoint at this moment, in milliseconds since 1970-01-01 00:00:00 UTC: its record and all that was said before are made durable, then each page that was changed, and then
-    /// what the note says of the database. The end is below 2^62. Then the log is cut, so that it holds the records from `floor` on, where that is no less than the kept point and at most the
-    /// number behind the checkpoint's record, and each transaction with a pending write began there or later; else it is left. `floor` is at most the first record of each transaction that is
-    /// still to write, since one without a pending write isn't looked at. A crash leaves what was durable, or some more of what was said, up to the checkpoint's record.
+    /// Makes a checkpoint at this moment, in milliseconds since 1970-01-01 00:00:00 UTC: makes its record, what was said, changed pages and what the note says durable. The end is below 2^62. Then cuts
+    /// the log at `floor`, where that lies from the kept point to the number behind the record, and no transaction with a pending write began below it; nor did one still to write. A crash
+    /// leaves what was durable, or some more of what was said.
     pub fn checkpoint<D: Device>(
         &mut self,
         alloc: Global,
@@ -224,7 +223,6 @@ impl Store {
     {
         self.mark_checkpoint(alloc, dev, now)?;
         self.note_end(alloc, dev)?;
-        self.cut(dev, floor)?;
-        Ok(())
+        self.cut(dev, floor)
     }
 }

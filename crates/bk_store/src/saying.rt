@@ -21,7 +21,7 @@ use bk_paged::Paged;
 use std::alloc::Global;
 
 // Numbers from here on, 2^62, are never given.
-pub(crate) const LAST_NUMBER: u64 = 1 << 62;
+const LAST_NUMBER: u64 = 1 << 62;
 
 // Whether the page of a cell is one of a data file.
 fn is_there(paged: &Paged, place: Place) -> bool
@@ -45,7 +45,7 @@ fn may_set(paged: &Paged, begin: Lsn, body: &Body) -> bool
 }
 
 // Whether a record has the next number, and may be set.
-pub(crate) fn may_append(paged: &Paged, r: &Rec) -> bool
+fn may_append(paged: &Paged, r: &Rec) -> bool
     requires limits { KeepsLimits r.now.body }
     ensures yes { result ≡ true → MayAppend paged.now r.now }
     ensures no { result ≡ false → MayAppend paged.now r.now → ⊥ }

@@ -1,4 +1,5 @@
 mod Added
+mod Answered
 mod Any
 mod Aside
 mod Begun

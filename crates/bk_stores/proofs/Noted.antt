@@ -1,5 +1,5 @@
 -- What is read of a note.
-use Rattle.std.proofs.Common.{◌≡◌, ℕ, Bool, true, false, List, Option, Some, None, Result, Err, refl, sym, ◌∙◌, ap, subst, arith}
+use Rattle.std.proofs.Common.{◌≡◌, ℕ, Bool, true, false, List, Option, Some, None, sym, ◌∙◌, ap, subst, arith}
 use Rattle.std.specs.Prelude.{slice_get}
 use Rattle.std.proofs.lemmas.Option.{same_Some}
 use Rattle.bk_device.specs.Disk.{Disk, Files}
@@ -12,22 +12,9 @@ use Rattle.bk_reading.specs.declared.unread.Unread.{Unread}
 use Rattle.bk_reading.specs.declared.unread.Unread.TheVariants as unread
 use Rattle.bk_store.specs.Store.{Kept as KeptStore}
 use Rattle.bk_store.specs.Told.{IsNoted, Told}
-use Rattle.bk_stores.specs.Errors.{FromNote}
 use Rattle.bk_stores.specs.ListLaws.{got, got-inside, got-one}
 use Rattle.bk_stores.specs.Parking.{IsParked, Spells}
 use Rattle.bk_stores.specs.Stores.{AreStores, HoldsBy, HoldsNote, IsSlot, Kept}
-use Rattle.bk_stores.specs.declared.error.StoresError.{StoresError}
-use Rattle.bk_stores.specs.declared.error.StoresError.TheVariants.{Broken}
-
--- ---- errors
-
--- it was this one
-pub same-cause : {T : Type 0} {r : Result T StoresError} (e d : StoresError) → r ≡ Err e → r ≡ Err d → e ≡ d
-same-cause {T = T} e d is was = let both : ◌≡◌ {A = Result T StoresError} (Err e) (Err d) = sym is ∙ was in cc
-
-pub broken-note : (e : Unread) (o : StoresError) → FromNote e o → o ≡ Broken → e ≡ unread.Unspelled
-broken-note unread.Unspelled o from is = refl
-broken-note unread.NoMemory o from is = absurd cc
 
 -- ---- bytes
 

@@ -1,5 +1,5 @@
 -- What the layers above may take of files in which nothing is to be finished, removed or undone.
-use Rattle.std.proofs.Common.{◌≡◌, ℕ, true, List, Some, sym, subst}
+use Rattle.std.proofs.Common.{◌≡◌, ℕ, true, List, Some, subst}
 use Rattle.std.specs.Prelude.{slice_get}
 use Rattle.bk_device.specs.Calls.{ChangesNothing}
 use Rattle.bk_device.specs.Disk.{Disk, Files}

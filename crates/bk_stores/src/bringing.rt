@@ -2,6 +2,7 @@
 ghost use Rattle.std.specs.Prelude.{◌≡◌, ◌≤◌, ◌<◌, List, Some, false, true, length, set, slice_get, IfErr, IfOk, OnOk, IsErrOf};
 ghost use Rattle.bk_device.specs.Counts.{HasCause};
 ghost use Rattle.bk_device.specs.Effects.{Effect};
+ghost use Rattle.bk_device.specs.Troubles.{IsPassing};
 ghost use Rattle.bk_filling.specs.Filling.{MayFill};
 ghost use Rattle.bk_known.specs.Known.{KeepsKnown};
 ghost use Rattle.bk_master.specs.declared.record.Entry.{Entry as Entries};
@@ -13,17 +14,15 @@ ghost use Rattle.bk_segments.specs.Files.{AreDurable as LogsAreDurable};
 ghost use Rattle.bk_store.specs.Store.{IsStore, Kept as KeptStore};
 ghost use Rattle.bk_store.specs.Told.{Told, said};
 ghost use Rattle.bk_stores.specs.Bringing.{IsNamed, MakesNext};
-ghost use Rattle.bk_stores.specs.Errors.{IsTrouble};
 ghost use Rattle.bk_stores.specs.Making.{IsSealed, Swaps, set_stored};
 ghost use Rattle.bk_stores.specs.Records.{SharesNone};
 ghost use Rattle.bk_stores.specs.Standing.{AreStanding, AreUnused};
 ghost use Rattle.bk_stores.specs.Stores.{AreStores, IsOurs, IsReady, LeavesStores, TouchesOurs, fixed_of, sealed_at};
 ghost use Rattle.bk_world.specs.Records.{Logged};
 
-use crate::error::StoresError;
 use crate::records::data_paths;
 use crate::stores::Stores;
-use bk_device::Device;
+use bk_device::{Device, Trouble};
 use bk_facts::DataFile;
 use bk_ids::{Lsn, Rec};
 use bk_known::Known;
@@ -40,7 +39,7 @@ impl Stores {
         alloc: Global,
         dev: &mut D,
         files: &[DataFile],
-    ) -> Result<u32, StoresError>
+    ) -> Result<u32, Trouble>
         requires ready { IsReady self.old }
         requires may { MayFill files.now }
         requires standing { D.tells → AreStanding (D.disk dev.old) self.old }
@@ -52,8 +51,8 @@ impl Stores {
         ensures stands { D.tells → (tolds : List Told) → AreStores (D.disk dev.old) self.old tolds → SharesNone self.old.master.record.databases tolds files.now → OnOk result (AreStores (D.disk dev.new) self.new tolds) }
         ensures crash { D.tells → (tolds : List Told) → AreStores (D.disk dev.old) self.old tolds → SharesNone self.old.master.record.databases tolds files.now → Effect IsOurs (LeavesStores (fixed_of self.old.master.record) (sealed_at self.old tolds) tolds) (D.disk dev.old) (D.disk dev.new) }
         ensures touches { D.tells → TouchesOurs (D.disk dev.old) (D.disk dev.new) }
-        ensures trouble { IfErr result IsTrouble }
-        ensures cause { HasCause D.disk_faults D.tell_faults dev.old dev.new (IsErrOf result StoresError.Fault) }
+        ensures trouble { IfErr result IsPassing }
+        ensures cause { HasCause D.disk_faults D.tell_faults dev.old dev.new (IsErrOf result Trouble.Fault) }
     {
         let number = self.master.record().next;
         let paths = data_paths(alloc, files)?;
@@ -74,7 +73,7 @@ impl Stores {
         known: &Known,
         note: &[u8],
         last: &Rec,
-    ) -> Result<Store, StoresError>
+    ) -> Result<Store, Trouble>
         requires ready { IsReady self.old }
         requires may { MayFill files.items }
         requires keeps { KeepsKnown known.now }
@@ -97,24 +96,21 @@ impl Stores {
         ensures crash { D.tells → (tolds : List Told) (told : Told) → AreStores (D.disk dev.old) self.old tolds → SharesNone self.old.master.record.databases tolds files.items → MakesNext (D.disk dev.old) self.old medium.now.name stored.now files.items checkpoint note.now known.now told
             → Effect IsOurs (LeavesStores (fixed_of self.old.master.record) (sealed_at self.old tolds) tolds) (D.disk dev.old) (D.disk dev.new) }
         ensures touches { D.tells → TouchesOurs (D.disk dev.old) (D.disk dev.new) }
-        ensures broken { D.tells → IsErrOf result StoresError.Broken → (tolds : List Told) (told : Told) (r : Logged) → AreStores (D.disk dev.old) self.old tolds → SharesNone self.old.master.record.databases tolds files.items
+        ensures broken { D.tells → IsErrOf result Trouble.Broken → (tolds : List Told) (told : Told) (r : Logged) → AreStores (D.disk dev.old) self.old tolds → SharesNone self.old.master.record.databases tolds files.items
             → MakesNext (D.disk dev.old) self.old medium.now.name stored.now files.items checkpoint note.now known.now told → EndsWith told r last.now → ⊥ }
-        ensures not_an_instance { IsErrOf result StoresError.NotAnInstance → ⊥ }
-        ensures cause { HasCause D.disk_faults D.tell_faults dev.old dev.new (IsErrOf result StoresError.Fault) }
+        ensures cause { HasCause D.disk_faults D.tell_faults dev.old dev.new (IsErrOf result Trouble.Fault) }
     {
         let number = self.begin_with(alloc, dev, &files)?;
         let recovered = recover(
             rt, alloc, dev, medium, stored, number, files, checkpoint, known, note, last,
         )?;
-        let store = self.checked(recovered)?;
-        Ok(store)
+        self.checked(recovered)
     }
 
-    /// Makes the database at this place, which counts from 0, and of which a note alone told, that of a full set that was opened on a medium: with these data files, which no open store has, the number of its
-    /// latest checkpoint, what is known of it, and these bytes, at most 12,288, as its note. What was pending in the backup is undone, and this record is said behind that; all is durable then, and its store is
-    /// open. Where no database has one of these data files, and the set makes a database with them, a crash leaves the databases as they were, or this one as the set made it, with the record.
+    /// Makes the database at this place, from 0, of which a note alone told, of a full set, with these data files, which no open store has, and a note of at most 12,288 bytes. What is pending is
+    /// undone, this record is said, all is durable then, its store open. A crash leaves the databases as they were, or this one so.
     ///
-    /// `Broken` is answered only where the set makes no database with these data files, or a database has one of them.
+    /// `Broken` is answered only where the set makes no database with them, or another has one.
     pub fn bring_up<R: Threads + Sync, D: Device>(
         &mut self,
         rt: &R,
@@ -128,7 +124,7 @@ impl Stores {
         known: &Known,
         note: &[u8],
         last: &Rec,
-    ) -> Result<(), StoresError>
+    ) -> Result<(), Trouble>
         requires ready { IsReady self.old }
         requires inside { at < length self.old.slots }
         requires parked { (e : Entries) × (slice_get self.old.master.record.databases at ≡ Some e) × (e.is_stored ≡ false) }
@@ -148,10 +144,9 @@ impl Stores {
         ensures crash { D.tells → (tolds : List Told) (told : Told) (r : Logged) → AreStores (D.disk dev.old) self.old tolds → SharesNone self.old.master.record.databases tolds files.items → MakesNext (D.disk dev.old) self.old medium.now.name stored.now files.items checkpoint note.now known.now told → EndsWith told r last.now
             → Swaps self.old tolds at true (said (settled told) r) (D.disk dev.old) (D.disk dev.new) }
         ensures touches { D.tells → TouchesOurs (D.disk dev.old) (D.disk dev.new) }
-        ensures broken { D.tells → IsErrOf result StoresError.Broken → (tolds : List Told) (told : Told) (r : Logged) → AreStores (D.disk dev.old) self.old tolds → SharesNone self.old.master.record.databases tolds files.items
+        ensures broken { D.tells → IsErrOf result Trouble.Broken → (tolds : List Told) (told : Told) (r : Logged) → AreStores (D.disk dev.old) self.old tolds → SharesNone self.old.master.record.databases tolds files.items
             → MakesNext (D.disk dev.old) self.old medium.now.name stored.now files.items checkpoint note.now known.now told → EndsWith told r last.now → ⊥ }
-        ensures not_an_instance { IsErrOf result StoresError.NotAnInstance → ⊥ }
-        ensures cause { HasCause D.disk_faults D.tell_faults dev.old dev.new (IsErrOf result StoresError.Fault) }
+        ensures cause { HasCause D.disk_faults D.tell_faults dev.old dev.new (IsErrOf result Trouble.Fault) }
     {
         let number = self.master.record().next;
         let store = self.recover_next(

@@ -17,7 +17,7 @@ mod stores;
 mod swapping;
 mod unused;
 
-pub use error::StoresError;
+pub use error::LoadError;
 pub use records::{data_paths, paths_of};
 pub use stores::Stores;
 pub use unused::share_no_path;

@@ -4,19 +4,19 @@ ghost use Rattle.bk_device.specs.Calls.{ChangesNothing};
 ghost use Rattle.bk_device.specs.Counts.{HasCause};
 ghost use Rattle.bk_device.specs.Disk.{IsSettled};
 ghost use Rattle.bk_device.specs.Effects.{Effect, MayLeaveOwn};
+ghost use Rattle.bk_device.specs.Troubles.{IsPassing};
 ghost use Rattle.bk_master.specs.Master.{AreDurable, IsBroken, IsMade, IsMaster, IsNoInstance, IsOwn};
 ghost use Rattle.bk_master.specs.Spelling.{IsShort, IsShortPath, IsSmall, KeepsRecord};
-ghost use Rattle.bk_stores.specs.Errors.{IsTrouble};
 ghost use Rattle.bk_store.specs.Told.{Told};
 ghost use Rattle.bk_stores.specs.Loading.{HoldsInstance, IsOfAny, Opens, shut};
 ghost use Rattle.bk_stores.specs.Quiet.{AreQuiet};
 ghost use Rattle.bk_stores.specs.Standing.{AreDifferent, AreNumbered, AreShut, AreStanding, LieBelow, LieUnder};
 ghost use Rattle.bk_stores.specs.Stores.{AreEntries, AreStores, Fixed, IsOurs, IsReady, LeavesStores, TouchesOurs, fixed_of, sealed_at};
 
-use crate::error::StoresError;
+use crate::error::LoadError;
 use crate::numbers::are_numbered;
 use crate::stores::Stores;
-use bk_device::{Device, Failed};
+use bk_device::{Device, Failed, Trouble};
 use bk_filling::{FillError, remove_parts};
 use bk_ids::Text;
 use bk_master::{Master, Record, Unfinished};
@@ -24,19 +24,19 @@ use bk_store::Store;
 use std::alloc::{AllocError, Global};
 
 // Opens the instance's own files, or makes them with this number.
-fn open_master<D: Device>(alloc: Global, dev: &mut D, number: u64) -> Result<Master, StoresError>
+fn open_master<D: Device>(alloc: Global, dev: &mut D, number: u64) -> Result<Master, LoadError>
     ensures fit { IfOk result (λ m. m.failed ≡ false) }
     ensures master { D.tells → IfOk result (λ m. IsMaster (D.disk dev.new) m) }
     ensures stands { D.tells → IsSettled (D.disk dev.old) → (fixed : Fixed) (tolds : List Told) → HoldsInstance number fixed (D.disk dev.old).files tolds → IfOk result (λ m. AreStores (D.disk dev.new) (shut m) tolds) }
     ensures fixed { D.tells → (fixed : Fixed) (tolds : List Told) → HoldsInstance number fixed (D.disk dev.old).files tolds → IfOk result (λ m. fixed_of m.record ≡ fixed) }
-    ensures not_an_instance { D.tells → IsErrOf result StoresError.NotAnInstance → IsNoInstance (D.disk dev.old).files }
-    ensures no_instance { D.tells → IsNoInstance (D.disk dev.old).files → MatchResult result (λ _. ⊥) (λ e. e ≢ StoresError.Broken) }
-    ensures broken { D.tells → IsErrOf result StoresError.Broken → (fixed : Fixed) (tolds : List Told) → HoldsInstance number fixed (D.disk dev.old).files tolds → ⊥ }
+    ensures not_an_instance { D.tells → IsErrOf result LoadError.NotAnInstance → IsNoInstance (D.disk dev.old).files }
+    ensures no_instance { D.tells → IsNoInstance (D.disk dev.old).files → MatchResult result (λ _. ⊥) (λ e. e ≢ LoadError.Broken) }
+    ensures broken { D.tells → IsErrOf result LoadError.Broken → (fixed : Fixed) (tolds : List Told) → HoldsInstance number fixed (D.disk dev.old).files tolds → ⊥ }
     ensures crash { D.tells → IsSettled (D.disk dev.old) → (fixed : Fixed) (tolds : List Told) → HoldsInstance number fixed (D.disk dev.old).files tolds → Opens number fixed tolds (D.disk dev.old) (D.disk dev.new) }
     ensures touches { D.tells → TouchesOurs (D.disk dev.old) (D.disk dev.new) }
-    ensures untouched { D.tells → IsErrOf result StoresError.NotAnInstance → ChangesNothing (D.disk dev.old) (D.disk dev.new) }
+    ensures untouched { D.tells → IsErrOf result LoadError.NotAnInstance → ChangesNothing (D.disk dev.old) (D.disk dev.new) }
     ensures still { D.tells → IsMade (D.disk dev.old).files → OnOk result (ChangesNothing (D.disk dev.old) (D.disk dev.new)) }
-    ensures cause { HasCause D.disk_faults D.tell_faults dev.old dev.new (IsErrOf result StoresError.Fault) }
+    ensures cause { HasCause D.disk_faults D.tell_faults dev.old dev.new (IsErrOf result LoadError.Fault) }
 {
     sync_own(dev)?;
     let master = Master::load(alloc, dev, number)?;
@@ -102,8 +102,7 @@ fn sync_own<D: Device>(dev: &mut D) -> Result<(), Failed>
     ensures cause { HasCause D.disk_faults D.tell_faults dev.old dev.new (IsErr result) }
 {
     dev.sync("sqlbak.made")?;
-    dev.sync("sqlbak.control")?;
-    Ok(())
+    dev.sync("sqlbak.control")
 }
 
 // Removes what is there of stores that were being made or removed.
@@ -134,7 +133,7 @@ fn shut_slots(alloc: Global, count: usize) -> Result<Vec<Option<Store>>, AllocEr
 
 impl Stores {
     // Removes what was being made or removed, if something was.
-    fn tidy<D: Device>(&mut self, alloc: Global, dev: &mut D) -> Result<(), StoresError>
+    fn tidy<D: Device>(&mut self, alloc: Global, dev: &mut D) -> Result<(), Trouble>
         requires fit { self.old.master.failed ≡ false }
         requires keeps { KeepsRecord self.old.master.record }
         requires count { length self.old.slots ≡ length self.old.master.record.databases }
@@ -147,8 +146,8 @@ impl Stores {
         ensures crash { D.tells → (tolds : List Told) → AreStores (D.disk dev.old) self.old tolds → Effect IsOurs (LeavesStores (fixed_of self.old.master.record) (sealed_at self.old tolds) tolds) (D.disk dev.old) (D.disk dev.new) }
         ensures touches { D.tells → TouchesOurs (D.disk dev.old) (D.disk dev.new) }
         ensures still { D.tells → self.old.master.record.unfinished ≡ [] → ChangesNothing (D.disk dev.old) (D.disk dev.new) }
-        ensures trouble { IfErr result IsTrouble }
-        ensures cause { HasCause D.disk_faults D.tell_faults dev.old dev.new (IsErrOf result StoresError.Fault) }
+        ensures trouble { IfErr result IsPassing }
+        ensures cause { HasCause D.disk_faults D.tell_faults dev.old dev.new (IsErrOf result Trouble.Fault) }
     {
         if self.master.record().unfinished.as_slice().is_empty() {
             return Ok(());
@@ -159,7 +158,7 @@ impl Stores {
 
     // Has no store open, and removes what was being made or removed. `Broken` is answered only where the record doesn't keep its limits, or stores have no number
     // of their own there.
-    fn settle_in<D: Device>(&mut self, alloc: Global, dev: &mut D) -> Result<(), StoresError>
+    fn settle_in<D: Device>(&mut self, alloc: Global, dev: &mut D) -> Result<(), Trouble>
         requires fit { self.old.master.failed ≡ false }
         requires master { D.tells → IsMaster (D.disk dev.old) self.old.master }
         ensures ready { OnOk result (IsReady self.new) }
@@ -170,38 +169,35 @@ impl Stores {
         ensures crash { D.tells → (tolds : List Told) → AreStores (D.disk dev.old) (shut self.old.master) tolds → Effect IsOurs (LeavesStores (fixed_of self.old.master.record) (sealed_at (shut self.old.master) tolds) tolds) (D.disk dev.old) (D.disk dev.new) }
         ensures touches { D.tells → TouchesOurs (D.disk dev.old) (D.disk dev.new) }
         ensures still { D.tells → self.old.master.record.unfinished ≡ [] → OnOk result (ChangesNothing (D.disk dev.old) (D.disk dev.new)) }
-        ensures broken { IsErrOf result StoresError.Broken → (tolds : List Told) → AreEntries self.old.master.record tolds → ⊥ }
-        ensures not_an_instance { IsErrOf result StoresError.NotAnInstance → ⊥ }
-        ensures cause { HasCause D.disk_faults D.tell_faults dev.old dev.new (IsErrOf result StoresError.Fault) }
+        ensures broken { IsErrOf result Trouble.Broken → (tolds : List Told) → AreEntries self.old.master.record tolds → ⊥ }
+        ensures cause { HasCause D.disk_faults D.tell_faults dev.old dev.new (IsErrOf result Trouble.Fault) }
     {
         if !is_sound(self.master.record()) {
-            return Err(StoresError::Broken);
+            return Err(Trouble::Broken);
         }
         self.slots = shut_slots(alloc, self.master.record().databases.as_slice().len())?;
         self.tidy(alloc, dev)
     }
 
-    /// Opens what an instance keeps of its stores, or makes an instance with this number where none is made; what was being made or removed is removed. No store is open then. A crash leaves the databases
-    /// that there were, and the record's own part, which is as it was. Where nothing is to be made or removed the files stay as they are.
+    /// Opens what an instance keeps of its stores, or makes an instance with this number where none is made; what was being made or removed is removed. No store is open then. A crash leaves the
+    /// databases and the record's own part. Where nothing is pending the files stay as they are.
     ///
-    /// `NotAnInstance` is answered only where an instance is made and its control file holds no control, and `Broken` only where it is made and its control holds no record, or one that doesn't keep its limits:
-    /// 16 databases, 16 sets that are being copied, and two stores that are being made or removed, each with 16 data files at paths of 1 to 100 bytes; each store with a number of its own below the next one. `NoMemory` may come after files
-    /// were touched.
-    pub fn load<D: Device>(alloc: Global, dev: &mut D, number: u64) -> Result<Stores, StoresError>
+    /// `NotAnInstance` is answered only where the control file of an instance holds no control, `Broken` only where that holds no record within its limits (`KeepsRecord`, `AreNumbered`).
+    pub fn load<D: Device>(alloc: Global, dev: &mut D, number: u64) -> Result<Stores, LoadError>
         ensures ready { IfOk result IsReady }
         ensures shut { IfOk result (λ s. s.slots ≡ replicate (length s.slots) None) }
         ensures standing { D.tells → IfOk result (λ s. AreStanding (D.disk dev.new) s) }
         ensures made { D.tells → OnOk result (IsMade (D.disk dev.new).files) }
         ensures stands { D.tells → IsSettled (D.disk dev.old) → (fixed : Fixed) (tolds : List Told) → HoldsInstance number fixed (D.disk dev.old).files tolds → IfOk result (λ s. AreStores (D.disk dev.new) s tolds) }
         ensures fixed { D.tells → (fixed : Fixed) (tolds : List Told) → HoldsInstance number fixed (D.disk dev.old).files tolds → IfOk result (λ s. fixed_of s.master.record ≡ fixed) }
-        ensures not_an_instance { D.tells → IsErrOf result StoresError.NotAnInstance → IsNoInstance (D.disk dev.old).files }
-        ensures no_instance { D.tells → IsNoInstance (D.disk dev.old).files → MatchResult result (λ _. ⊥) (λ e. e ≢ StoresError.Broken) }
-        ensures broken { D.tells → IsErrOf result StoresError.Broken → IsSettled (D.disk dev.old) → (fixed : Fixed) (tolds : List Told) → HoldsInstance number fixed (D.disk dev.old).files tolds → ⊥ }
+        ensures not_an_instance { D.tells → IsErrOf result LoadError.NotAnInstance → IsNoInstance (D.disk dev.old).files }
+        ensures no_instance { D.tells → IsNoInstance (D.disk dev.old).files → MatchResult result (λ _. ⊥) (λ e. e ≢ LoadError.Broken) }
+        ensures broken { D.tells → IsErrOf result LoadError.Broken → IsSettled (D.disk dev.old) → (fixed : Fixed) (tolds : List Told) → HoldsInstance number fixed (D.disk dev.old).files tolds → ⊥ }
         ensures crash { D.tells → IsSettled (D.disk dev.old) → (fixed : Fixed) (tolds : List Told) → HoldsInstance number fixed (D.disk dev.old).files tolds → Opens number fixed tolds (D.disk dev.old) (D.disk dev.new) }
         ensures touches { D.tells → TouchesOurs (D.disk dev.old) (D.disk dev.new) }
-        ensures untouched { D.tells → IsErrOf result StoresError.NotAnInstance → ChangesNothing (D.disk dev.old) (D.disk dev.new) }
+        ensures untouched { D.tells → IsErrOf result LoadError.NotAnInstance → ChangesNothing (D.disk dev.old) (D.disk dev.new) }
         ensures still { D.tells → IsSettled (D.disk dev.old) → AreQuiet (D.disk dev.old).files → OnOk result (ChangesNothing (D.disk dev.old) (D.disk dev.new)) }
-        ensures cause { HasCause D.disk_faults D.tell_faults dev.old dev.new (IsErrOf result StoresError.Fault) }
+        ensures cause { HasCause D.disk_faults D.tell_faults dev.old dev.new (IsErrOf result LoadError.Fault) }
     {
         let master = open_master(alloc, dev, number)?;
         let mut stores = Stores {

@@ -4,20 +4,19 @@ ghost use Rattle.bk_device.specs.Counts.{HasCause};
 ghost use Rattle.bk_control.specs.Slots.{control_of};
 ghost use Rattle.bk_device.specs.Disk.{IsDurable};
 ghost use Rattle.bk_device.specs.Effects.{Effect};
+ghost use Rattle.bk_device.specs.Troubles.{IsPassing};
 ghost use Rattle.bk_segments.specs.Files.{control_file, AreDurable as LogsAreDurable};
 ghost use Rattle.bk_store.specs.Making.{MayDescribe, founded};
 ghost use Rattle.bk_store.specs.Store.{Kept as KeptStore};
 ghost use Rattle.bk_store.specs.Told.{Told, data_file, data_files};
-ghost use Rattle.bk_stores.specs.Errors.{IsTrouble};
 ghost use Rattle.bk_stores.specs.Making.{Adds, Creates, IsSealed, MayAdd, more_stored};
 ghost use Rattle.bk_stores.specs.Records.{AreSmall, IsApart, SharesNone, begun, rested};
 ghost use Rattle.bk_stores.specs.Standing.{AreStanding, AreUnused, Joins};
 ghost use Rattle.bk_stores.specs.Stores.{AreStores, IsOurs, IsReady, IsSlot, LeavesStores, TouchesOurs, at_paths, fixed_of, its_files, sealed_at};
 
-use crate::error::StoresError;
 use crate::records::{added_record, begin_record, paths_of};
 use crate::stores::Stores;
-use bk_device::Device;
+use bk_device::{Device, Trouble};
 use bk_filling::remove_parts;
 use bk_ids::{Guid, Text};
 use bk_known::DatabaseSpec;
@@ -35,7 +34,7 @@ impl Stores {
         alloc: Global,
         dev: &mut D,
         paths: &[Text],
-    ) -> Result<(), StoresError>
+    ) -> Result<(), Trouble>
         requires ready { IsReady self.old }
         requires small { AreSmall paths.now }
         requires standing { D.tells → AreStanding (D.disk dev.old) self.old }
@@ -48,8 +47,8 @@ impl Stores {
         ensures stands { D.tells → (tolds : List Told) → AreStores (D.disk dev.old) self.old tolds → SharesNone self.old.master.record.databases tolds (at_paths paths.now) → OnOk result (AreStores (D.disk dev.new) self.new tolds) }
         ensures crash { D.tells → (tolds : List Told) → AreStores (D.disk dev.old) self.old tolds → SharesNone self.old.master.record.databases tolds (at_paths paths.now) → Effect IsOurs (LeavesStores (fixed_of self.old.master.record) (sealed_at self.old tolds) tolds) (D.disk dev.old) (D.disk dev.new) }
         ensures touches { D.tells → TouchesOurs (D.disk dev.old) (D.disk dev.new) }
-        ensures trouble { IfErr result IsTrouble }
-        ensures cause { HasCause D.disk_faults D.tell_faults dev.old dev.new (IsErrOf result StoresError.Fault) }
+        ensures trouble { IfErr result IsPassing }
+        ensures cause { HasCause D.disk_faults D.tell_faults dev.old dev.new (IsErrOf result Trouble.Fault) }
     {
         let next = begin_record(alloc, self.master.record(), paths)?;
         self.master.put(alloc, dev, next)?;
@@ -66,7 +65,7 @@ impl Stores {
         dev: &mut D,
         entry: Entry,
         slot: Option<Store>,
-    ) -> Result<(), StoresError>
+    ) -> Result<(), Trouble>
         requires fit { self.old.master.failed ≡ false }
         requires adds { Adds self.old entry.store }
         requires standing { D.tells → AreStanding (D.disk dev.old) self.old }
@@ -78,8 +77,8 @@ impl Stores {
         ensures stands { D.tells → (tolds : List Told) (new : Told) → AreStores (D.disk dev.old) self.old tolds → MayAdd (D.disk dev.old) self.old tolds entry slot new → OnOk result (AreStores (D.disk dev.new) self.new (tolds ++ new ∷ [])) }
         ensures crash { D.tells → (tolds : List Told) (new : Told) → AreStores (D.disk dev.old) self.old tolds → MayAdd (D.disk dev.old) self.old tolds entry slot new → Creates self.old tolds entry.is_stored new (D.disk dev.old) (D.disk dev.new) }
         ensures touches { D.tells → TouchesOurs (D.disk dev.old) (D.disk dev.new) }
-        ensures trouble { IfErr result IsTrouble }
-        ensures cause { HasCause D.disk_faults D.tell_faults dev.old dev.new (IsErrOf result StoresError.Fault) }
+        ensures trouble { IfErr result IsPassing }
+        ensures cause { HasCause D.disk_faults D.tell_faults dev.old dev.new (IsErrOf result Trouble.Fault) }
     {
         self.slots.push(slot)?;
         let next = added_record(alloc, self.master.record(), entry)?;
@@ -93,7 +92,7 @@ impl Stores {
         alloc: Global,
         dev: &mut D,
         spec: &DatabaseSpec,
-    ) -> Result<u32, StoresError>
+    ) -> Result<u32, Trouble>
         requires ready { IsReady self.old }
         requires may { MayDescribe spec.now }
         requires standing { D.tells → AreStanding (D.disk dev.old) self.old }
@@ -108,8 +107,8 @@ impl Stores {
         ensures stands { D.tells → (tolds : List Told) → AreStores (D.disk dev.old) self.old tolds → SharesNone self.old.master.record.databases tolds (map data_file spec.now.storage.files) → OnOk result (AreStores (D.disk dev.new) self.new tolds) }
         ensures crash { D.tells → (tolds : List Told) → AreStores (D.disk dev.old) self.old tolds → SharesNone self.old.master.record.databases tolds (map data_file spec.now.storage.files) → Effect IsOurs (LeavesStores (fixed_of self.old.master.record) (sealed_at self.old tolds) tolds) (D.disk dev.old) (D.disk dev.new) }
         ensures touches { D.tells → TouchesOurs (D.disk dev.old) (D.disk dev.new) }
-        ensures trouble { IfErr result IsTrouble }
-        ensures cause { HasCause D.disk_faults D.tell_faults dev.old dev.new (IsErrOf result StoresError.Fault) }
+        ensures trouble { IfErr result IsPassing }
+        ensures cause { HasCause D.disk_faults D.tell_faults dev.old dev.new (IsErrOf result Trouble.Fault) }
     {
         let number = self.master.record().next;
         let paths = paths_of(alloc, spec.storage.files.as_slice())?;
@@ -118,11 +117,10 @@ impl Stores {
         Ok(number)
     }
 
-    /// Makes a database of this description behind the others, with one record, that it was made at this time, in milliseconds since 1970-01-01 00:00:00 UTC, on this branch; that is durable then, and its
-    /// store is open. There are fewer than 16 databases, and no open store has a data file at one of its paths. Pages are kept in so many frames, at least one. Where no database has one either,
-    /// a crash leaves the databases that were there, or these and the new one.
+    /// Makes a database of this description behind fewer than 16 others, with a durable record that it was made at this time, in milliseconds since 1970-01-01 00:00:00 UTC, on this branch; its store is open then,
+    /// with so many frames for pages, at least one. No open store has one of its data files. Where no database has, a crash leaves the others, or them and this one.
     ///
-    /// `NoMemory` may come after files were touched; it comes where two data files have one path. Only `Fault` and `NoMemory` are answered.
+    /// Only `Fault` and `NoMemory` are answered.
     pub fn create<D: Device>(
         &mut self,
         alloc: Global,
@@ -131,7 +129,7 @@ impl Stores {
         time: u64,
         branch: Guid,
         frames: usize,
-    ) -> Result<(), StoresError>
+    ) -> Result<(), Trouble>
         requires ready { IsReady self.old }
         requires few { length self.old.slots < 16 }
         requires some { 1 ≤ frames }
@@ -145,8 +143,8 @@ impl Stores {
         ensures stands { D.tells → (tolds : List Told) → AreStores (D.disk dev.old) self.old tolds → SharesNone self.old.master.record.databases tolds (map data_file spec.storage.files) → OnOk result (AreStores (D.disk dev.new) self.new (tolds ++ founded spec time branch ∷ [])) }
         ensures crash { D.tells → (tolds : List Told) → AreStores (D.disk dev.old) self.old tolds → SharesNone self.old.master.record.databases tolds (map data_file spec.storage.files) → Creates self.old tolds true (founded spec time branch) (D.disk dev.old) (D.disk dev.new) }
         ensures touches { D.tells → TouchesOurs (D.disk dev.old) (D.disk dev.new) }
-        ensures trouble { IfErr result IsTrouble }
-        ensures cause { HasCause D.disk_faults D.tell_faults dev.old dev.new (IsErrOf result StoresError.Fault) }
+        ensures trouble { IfErr result IsPassing }
+        ensures cause { HasCause D.disk_faults D.tell_faults dev.old dev.new (IsErrOf result Trouble.Fault) }
     {
         let number = self.make_way(alloc, dev, &spec)?;
         let store = Store::create(alloc, dev, number, spec, time, branch, frames)?;

@@ -2,17 +2,16 @@
 ghost use Rattle.std.specs.Prelude.{◌≡◌, ◌⊎◌, List, false, IfErr, OnOk, IsErrOf};
 ghost use Rattle.bk_device.specs.Counts.{HasCause};
 ghost use Rattle.bk_device.specs.Effects.{Effect};
+ghost use Rattle.bk_device.specs.Troubles.{IsPassing};
 ghost use Rattle.bk_master.specs.Spelling.{KeepsOwn, KeepsRecord};
 ghost use Rattle.bk_store.specs.Told.{Told};
-ghost use Rattle.bk_stores.specs.Errors.{IsTrouble};
 ghost use Rattle.bk_stores.specs.Records.{owned};
 ghost use Rattle.bk_stores.specs.Standing.{AreStanding};
 ghost use Rattle.bk_stores.specs.Stores.{AreStores, IsOurs, IsReady, LeavesStores, TouchesOurs, fixed_of, sealed_at};
 
-use crate::error::StoresError;
 use crate::records::owned_record;
 use crate::stores::Stores;
-use bk_device::Device;
+use bk_device::{Device, Trouble};
 use bk_master::Own;
 use std::alloc::Global;
 
@@ -32,7 +31,7 @@ impl Stores {
         alloc: Global,
         dev: &mut D,
         own: Own,
-    ) -> Result<(), StoresError>
+    ) -> Result<(), Trouble>
         requires fit { self.old.master.failed ≡ false }
         requires keeps { KeepsRecord self.old.master.record }
         requires own { KeepsOwn own }
@@ -45,8 +44,8 @@ impl Stores {
         ensures stands { D.tells → (tolds : List Told) → AreStores (D.disk dev.old) self.old tolds → OnOk result (AreStores (D.disk dev.new) self.new tolds) }
         ensures crash { D.tells → (tolds : List Told) → AreStores (D.disk dev.old) self.old tolds → Effect IsOurs (λ image. LeavesStores (fixed_of self.old.master.record) (sealed_at self.old tolds) tolds image ⊎ LeavesStores (record (fixed_of self.old.master.record) { own = own }) (sealed_at self.old tolds) tolds image) (D.disk dev.old) (D.disk dev.new) }
         ensures touches { D.tells → TouchesOurs (D.disk dev.old) (D.disk dev.new) }
-        ensures trouble { IfErr result IsTrouble }
-        ensures cause { HasCause D.disk_faults D.tell_faults dev.old dev.new (IsErrOf result StoresError.Fault) }
+        ensures trouble { IfErr result IsPassing }
+        ensures cause { HasCause D.disk_faults D.tell_faults dev.old dev.new (IsErrOf result Trouble.Fault) }
     {
         let next = owned_record(alloc, self.master.record(), own)?;
         self.master.put(alloc, dev, next)?;

@@ -2,20 +2,19 @@
 ghost use Rattle.std.specs.Prelude.{◌≡◌, ◌≤◌, ◌<◌, ◌^◌, ◌∷◌, ◌++◌, [], List, None, Some, false, length, set, slice_get, IfErr, IfOk, OnOk, IsErrOf};
 ghost use Rattle.bk_device.specs.Counts.{HasCause};
 ghost use Rattle.bk_device.specs.Effects.{Effect};
+ghost use Rattle.bk_device.specs.Troubles.{IsPassing};
 ghost use Rattle.bk_known.specs.Known.{KeepsKnown};
 ghost use Rattle.bk_paged.specs.Names.{IsOwn};
 ghost use Rattle.bk_segments.specs.Files.{AreDurable as LogsAreDurable};
 ghost use Rattle.bk_store.specs.Told.{Told};
-ghost use Rattle.bk_stores.specs.Errors.{IsTrouble};
 ghost use Rattle.bk_stores.specs.Making.{Creates, MayRemove, Swaps, more_stored, set_stored};
 ghost use Rattle.bk_stores.specs.Parking.{IsParked};
 ghost use Rattle.bk_stores.specs.Records.{AreSmall, begun, parked_entry};
 ghost use Rattle.bk_stores.specs.Standing.{AreStanding, AreUnused};
 ghost use Rattle.bk_stores.specs.Stores.{AreStores, IsOurs, IsReady, IsShut, LeavesStores, TouchesOurs, at_paths, fixed_of, sealed_at};
 
-use crate::error::StoresError;
 use crate::stores::Stores;
-use bk_device::Device;
+use bk_device::{Device, Trouble};
 use bk_filling::{FillError, Records, remove_parts};
 use bk_ids::Text;
 use bk_known::{Known, spell_known};
@@ -39,8 +38,7 @@ fn make_note<D: Device>(
     remove_parts(alloc, dev, number, &[])?;
     let bytes = spell_known(alloc, known, note)?;
     let log = Records::begin(alloc, dev, number, known.as_of.from)?;
-    log.finish(alloc, dev, &bytes)?;
-    Ok(())
+    log.finish(alloc, dev, &bytes)
 }
 
 impl Stores {
@@ -51,7 +49,7 @@ impl Stores {
         dev: &mut D,
         known: &Known,
         note: &[u8],
-    ) -> Result<u32, StoresError>
+    ) -> Result<u32, Trouble>
         requires ready { IsReady self.old }
         requires keeps { KeepsKnown known.now }
         requires short { length note.now ≤ 12288 }
@@ -66,8 +64,8 @@ impl Stores {
         ensures shut { D.tells → (tolds : List Told) (told : Told) → AreStores (D.disk dev.old) self.old tolds → IsParked known.now note.now told → OnOk result (IsShut (D.disk dev.new) (parked_entry self.old.master.record.next) told) }
         ensures crash { D.tells → (tolds : List Told) → AreStores (D.disk dev.old) self.old tolds → Effect IsOurs (LeavesStores (fixed_of self.old.master.record) (sealed_at self.old tolds) tolds) (D.disk dev.old) (D.disk dev.new) }
         ensures touches { D.tells → TouchesOurs (D.disk dev.old) (D.disk dev.new) }
-        ensures trouble { IfErr result IsTrouble }
-        ensures cause { HasCause D.disk_faults D.tell_faults dev.old dev.new (IsErrOf result StoresError.Fault) }
+        ensures trouble { IfErr result IsPassing }
+        ensures cause { HasCause D.disk_faults D.tell_faults dev.old dev.new (IsErrOf result Trouble.Fault) }
     {
         let number = self.master.record().next;
         self.begin_store(alloc, dev, &[])?;
@@ -85,7 +83,7 @@ impl Stores {
         dev: &mut D,
         known: &Known,
         note: &[u8],
-    ) -> Result<(), StoresError>
+    ) -> Result<(), Trouble>
         requires ready { IsReady self.old }
         requires few { length self.old.slots < 16 }
         requires keeps { KeepsKnown known.now }
@@ -98,8 +96,8 @@ impl Stores {
         ensures stands { D.tells → (tolds : List Told) (told : Told) → AreStores (D.disk dev.old) self.old tolds → IsParked known.now note.now told → OnOk result (AreStores (D.disk dev.new) self.new (tolds ++ told ∷ [])) }
         ensures crash { D.tells → (tolds : List Told) (told : Told) → AreStores (D.disk dev.old) self.old tolds → IsParked known.now note.now told → Creates self.old tolds false told (D.disk dev.old) (D.disk dev.new) }
         ensures touches { D.tells → TouchesOurs (D.disk dev.old) (D.disk dev.new) }
-        ensures trouble { IfErr result IsTrouble }
-        ensures cause { HasCause D.disk_faults D.tell_faults dev.old dev.new (IsErrOf result StoresError.Fault) }
+        ensures trouble { IfErr result IsPassing }
+        ensures cause { HasCause D.disk_faults D.tell_faults dev.old dev.new (IsErrOf result Trouble.Fault) }
     {
         let number = self.make_parked(alloc, dev, known, note)?;
         let entry = Entry {
@@ -109,8 +107,8 @@ impl Stores {
         self.add(alloc, dev, entry, None)
     }
 
-    /// Keeps of the database at this place, which counts from 0, only this description and this note of at most 12,288 bytes, in the note of a log without records, and removes the files of the store that it
-    /// had, with data files at these paths, if it had some, which no other open store has. It stands for each database that they describe as of its end. A crash leaves the database as it was, or so.
+    /// Keeps of the database at this place, which counts from 0, only this description and this note of at most 12,288 bytes, in the note of a log without records, and removes its store's files, with data files
+    /// at these paths, if it has some, which no other open store has. It stands for each database that they describe. A crash leaves the database as it was, or so.
     ///
     /// Only `Fault` and `NoMemory` are answered.
     pub fn park_at<D: Device>(
@@ -121,7 +119,7 @@ impl Stores {
         known: &Known,
         note: &[u8],
         paths: &[Text],
-    ) -> Result<(), StoresError>
+    ) -> Result<(), Trouble>
         requires ready { IsReady self.old }
         requires inside { at < length self.old.slots }
         requires keeps { KeepsKnown known.now }
@@ -136,8 +134,8 @@ impl Stores {
         ensures stands { D.tells → (tolds : List Told) (told new : Told) → AreStores (D.disk dev.old) self.old tolds → MayRemove self.old tolds at told paths.now → IsParked known.now note.now new → OnOk result (AreStores (D.disk dev.new) self.new (set tolds at new)) }
         ensures crash { D.tells → (tolds : List Told) (told new : Told) → AreStores (D.disk dev.old) self.old tolds → MayRemove self.old tolds at told paths.now → IsParked known.now note.now new → Swaps self.old tolds at false new (D.disk dev.old) (D.disk dev.new) }
         ensures touches { D.tells → TouchesOurs (D.disk dev.old) (D.disk dev.new) }
-        ensures trouble { IfErr result IsTrouble }
-        ensures cause { HasCause D.disk_faults D.tell_faults dev.old dev.new (IsErrOf result StoresError.Fault) }
+        ensures trouble { IfErr result IsPassing }
+        ensures cause { HasCause D.disk_faults D.tell_faults dev.old dev.new (IsErrOf result Trouble.Fault) }
     {
         let number = self.make_parked(alloc, dev, known, note)?;
         let entry = Entry {

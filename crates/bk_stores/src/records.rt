@@ -1,11 +1,11 @@
 // The records that are put while stores are made and removed.
 ghost use Rattle.std.specs.Prelude.{◌≡◌, ◌<◌, ◌∷◌, ◌++◌, ◌+◌, ◌^◌, [], Some, length, map, slice_get, IfErr, IfOk, IsErrOf};
+ghost use Rattle.bk_device.specs.Troubles.{IsPassing};
+ghost use Rattle.bk_device.specs.declared.trouble.Trouble.TheVariants.{Fault};
 ghost use Rattle.bk_master.specs.declared.record.Entry.{Entry as Entries};
-ghost use Rattle.bk_stores.specs.Errors.{IsTrouble};
 ghost use Rattle.bk_stores.specs.Records.{begun, left_out, owned, rested, swapped, unfinished_at};
-ghost use Rattle.bk_stores.specs.declared.error.StoresError.TheVariants.{Fault};
 
-use crate::error::StoresError;
+use bk_device::Trouble;
 use bk_facts::DataFile;
 use bk_ids::{Guid, Sequence, Text};
 use bk_master::{Entry, Own, Record, Unfinished};
@@ -148,19 +148,15 @@ fn with_parts(
 }
 
 /// The record that names the store of the next number as one that is being made, with data files at these paths.
-pub(crate) fn begin_record(
-    alloc: Global,
-    old: &Record,
-    paths: &[Text],
-) -> Result<Record, StoresError>
+pub(crate) fn begin_record(alloc: Global, old: &Record, paths: &[Text]) -> Result<Record, Trouble>
     ensures begun { IfOk result (λ r. r ≡ begun old.now paths.now) }
     ensures few { IfOk result (λ r. old.now.next < 2 ^ 32) }
     ensures small { IfOk result (λ r. r.next < 2 ^ 32) }
-    ensures trouble { IfErr result IsTrouble }
+    ensures trouble { IfErr result IsPassing }
     ensures no_fault { IsErrOf result Fault → ⊥ }
 {
     let Some(next) = old.next.checked_add(1) else {
-        return Err(StoresError::NoMemory);
+        return Err(Trouble::NoMemory);
     };
     let unfinished = one_unfinished(alloc, old.next, paths)?;
     let databases = copy_entries(alloc, old.databases.as_slice())?;

@@ -1,18 +1,10 @@
 // The stores of an instance.
-ghost use Rattle.std.specs.Prelude.{◌≡◌, ◌⊎◌, ◌∷◌, ◌≤◌, ◌<◌, ◌+◌, [], length, slice_get, Some, option_map, IfErr, List, OnOk, IsErrOf};
-ghost use Rattle.bk_device.specs.Counts.{HasCause};
-ghost use Rattle.bk_device.specs.Effects.{Effect};
-ghost use Rattle.bk_master.specs.Master.{HoldsRecord, IsMaster, IsOwn as IsOfMaster};
-ghost use Rattle.bk_master.specs.Spelling.{KeepsRecord};
+ghost use Rattle.std.specs.Prelude.{◌≡◌, ◌<◌, length, slice_get, Some, option_map};
 ghost use Rattle.bk_master.specs.declared.record.Entry.{Entry as Entries};
-ghost use Rattle.bk_stores.specs.Errors.{IsTrouble};
-ghost use Rattle.bk_stores.specs.Stores.{AreStores, IsReady, Kept, StandFor};
+ghost use Rattle.bk_stores.specs.Stores.{Kept};
 
-use crate::error::StoresError;
-use bk_device::Device;
-use bk_master::{Master, Record};
+use bk_master::Master;
 use bk_store::Store;
-use std::alloc::Global;
 use std::marker::Model;
 
 /// The databases of an instance on its device, in their order: each a store of its own, open or not, under the instance's record.

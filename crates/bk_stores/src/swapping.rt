@@ -1,19 +1,19 @@
 // Another store in the place of a database's.
 ghost use Rattle.std.specs.Prelude.{◌≡◌, ◌<◌, ◌^◌, List, None, Some, false, length, set, slice_get, IfErr, IfOk, OnOk, IsErrOf};
 ghost use Rattle.bk_device.specs.Counts.{HasCause};
+ghost use Rattle.bk_device.specs.Troubles.{IsPassing};
 ghost use Rattle.bk_master.specs.declared.record.Entry.{Entry as Entries};
 ghost use Rattle.bk_master.specs.Spelling.{KeepsRecord};
 ghost use Rattle.bk_store.specs.Told.{Told};
-ghost use Rattle.bk_stores.specs.Errors.{IsTrouble};
 ghost use Rattle.bk_stores.specs.Making.{MaySwap, Swaps, set_stored};
 ghost use Rattle.bk_stores.specs.Records.{AreSmall, swapped};
 ghost use Rattle.bk_stores.specs.Standing.{AreStanding, AreUnused, Joins};
 ghost use Rattle.bk_stores.specs.Stores.{AreStores, IsReady, TouchesOurs, at_paths, fixed_of};
 
-use crate::error::StoresError;
+use crate::changing::put_slot;
 use crate::records::{store_at, swapped_record};
 use crate::stores::Stores;
-use bk_device::Device;
+use bk_device::{Device, Trouble};
 use bk_filling::remove_parts;
 use bk_ids::Text;
 use bk_master::Entry;
@@ -30,7 +30,7 @@ impl Stores {
         entry: Entry,
         slot: Option<Store>,
         paths: &[Text],
-    ) -> Result<u32, StoresError>
+    ) -> Result<u32, Trouble>
         requires fit { self.old.master.failed ≡ false }
         requires keeps { KeepsRecord self.old.master.record }
         requires count { length self.old.slots ≡ length self.old.master.record.databases }
@@ -46,11 +46,11 @@ impl Stores {
         ensures stands { D.tells → (tolds : List Told) (told new : Told) → AreStores (D.disk dev.old) self.old tolds → MaySwap (D.disk dev.old) self.old tolds at told entry slot new paths.now → OnOk result (AreStores (D.disk dev.new) self.new (set tolds at new)) }
         ensures crash { D.tells → (tolds : List Told) (told new : Told) → AreStores (D.disk dev.old) self.old tolds → MaySwap (D.disk dev.old) self.old tolds at told entry slot new paths.now → Swaps self.old tolds at entry.is_stored new (D.disk dev.old) (D.disk dev.new) }
         ensures touches { D.tells → TouchesOurs (D.disk dev.old) (D.disk dev.new) }
-        ensures trouble { IfErr result IsTrouble }
-        ensures cause { HasCause D.disk_faults D.tell_faults dev.old dev.new (IsErrOf result StoresError.Fault) }
+        ensures trouble { IfErr result IsPassing }
+        ensures cause { HasCause D.disk_faults D.tell_faults dev.old dev.new (IsErrOf result Trouble.Fault) }
     {
         let number = store_at(self.master.record(), at);
-        self.slots[at] = slot;
+        put_slot(&mut self.slots, at, slot);
         let next = swapped_record(alloc, self.master.record(), at, entry, number, paths)?;
         self.master.put(alloc, dev, next)?;
         Ok(number)
@@ -68,7 +68,7 @@ impl Stores {
         entry: Entry,
         slot: Option<Store>,
         paths: &[Text],
-    ) -> Result<(), StoresError>
+    ) -> Result<(), Trouble>
         requires fit { self.old.master.failed ≡ false }
         requires keeps { KeepsRecord self.old.master.record }
         requires count { length self.old.slots ≡ length self.old.master.record.databases }
@@ -85,8 +85,8 @@ impl Stores {
         ensures stands { D.tells → (tolds : List Told) (told new : Told) → AreStores (D.disk dev.old) self.old tolds → MaySwap (D.disk dev.old) self.old tolds at told entry slot new paths.now → OnOk result (AreStores (D.disk dev.new) self.new (set tolds at new)) }
         ensures crash { D.tells → (tolds : List Told) (told new : Told) → AreStores (D.disk dev.old) self.old tolds → MaySwap (D.disk dev.old) self.old tolds at told entry slot new paths.now → Swaps self.old tolds at entry.is_stored new (D.disk dev.old) (D.disk dev.new) }
         ensures touches { D.tells → TouchesOurs (D.disk dev.old) (D.disk dev.new) }
-        ensures trouble { IfErr result IsTrouble }
-        ensures cause { HasCause D.disk_faults D.tell_faults dev.old dev.new (IsErrOf result StoresError.Fault) }
+        ensures trouble { IfErr result IsPassing }
+        ensures cause { HasCause D.disk_faults D.tell_faults dev.old dev.new (IsErrOf result Trouble.Fault) }
     {
         let number = self.put_in_place(alloc, dev, at, entry, slot, paths)?;
         remove_parts(alloc, dev, number, paths)?;

@@ -87,11 +87,11 @@ impl<'a, R: Files<File = File>> Directory<'a, R> {
         self.enter()?;
         self.files.pop(name);
         let path = self.path_of(name)?;
-        if self.is_there(&path)? {
-            self.has_new_names = true;
-            self.rt.remove_file(&path)?;
+        if !self.is_there(&path)? {
+            return Ok(());
         }
-        Ok(())
+        self.has_new_names = true;
+        self.rt.remove_file(&path)
     }
 
     // Once one has failed each further one fails, since the system tells of what it couldn't write only once.
@@ -167,11 +167,11 @@ impl<'a, R: Files<File = File>> Directory<'a, R> {
             return Ok(());
         }
         let path = self.path_of(name)?;
-        if self.is_there(&path)? {
-            let file = OpenFile::open(self.rt, self.alloc, &path)?;
-            self.keep(name, file)?;
+        if !self.is_there(&path)? {
+            return Ok(());
         }
-        Ok(())
+        let file = OpenFile::open(self.rt, self.alloc, &path)?;
+        self.keep(name, file)
     }
 
     fn open_or_make(&mut self, name: &str) -> io::Result<()> {

@@ -8,12 +8,11 @@ use Rattle.bk_bytes.specs.FieldLaws.{length-bytes_of, number_of-bytes_of}
 use Rattle.bk_device.specs.Calls.{contents, read_at, filled}
 use Rattle.bk_device.specs.Disk.{Files}
 use Rattle.bk_device.specs.Laws.{length-read_at, filled_whole}
-use Rattle.bk_body.specs.SetSpelling.{log_bytes}
 use Rattle.bk_world.specs.declared.header.HeaderFile.{HeaderFile}
 use Rattle.bk_body.specs.Body.{Extent, Body}
 use Rattle.bk_body.specs.Conditions.{KeepsExtent, IsBody}
 use Rattle.bk_body.specs.declared.front.Front.{Front}
-use Rattle.bk_body.specs.Spelling.{extent_bytes, body_bytes}
+use Rattle.bk_body.specs.Spelling.{log_bytes, extent_bytes, body_bytes}
 use Rattle.bk_volume.specs.Opening.{SplitsFront, GivesFront, IsFrontOf, AreBehind}
 use Rattle.bk_volume.specs.Stored.{Stored, IsOf, IsExtentAt, log_place}
 use Rattle.bk_volume.proofs.Copying.{read_two}

@@ -38,6 +38,14 @@ parts_sealed gate new parts digest hasher file {a} {b} named adds is has =
     has ∙ ap (λ (n : List ℕ). sealed (b.files n) ++ (begun_of b new ++ digest) ∷ []) named ∙ ap (λ (s : List (List ℕ)). s ++ (begun_of b new ++ digest) ∷ []) adds.same
     ∙ ap (λ (blob : List ℕ). sealed (a.files gate.name) ++ blob ∷ []) (blob_is gate new parts digest hasher adds is)
 
+-- the same, from the gate whose blob was begun
+pub parts_sealed_from : (gate began new : Kept) (parts digest : List ℕ) (hasher : Sha256) (c : Disk) {a b : Disk} → began ≡ record gate { begun = Some 0 } → new.name ≡ began.name → Adds began new parts hasher a b → digest ≡ sha256 (begun_of b new)
+    → HasSealed new.name (begun_of b new ++ digest) b (c.files new.name) → HasSealed gate.name (with_digest parts) a (c.files gate.name)
+parts_sealed_from gate began new parts digest hasher c {a} {b} start named adds is has =
+    let Of : Kept → Type 0 = λ k. Adds k new parts hasher a b in
+    let name : new.name ≡ gate.name = named ∙ ap (λ (k : Kept). k.name) start in
+    parts_sealed gate new parts digest hasher (c.files gate.name) name (subst Of start adds) is (subst (λ (n : List ℕ). HasSealed new.name (begun_of b new ++ digest) b (c.files n)) name has)
+
 -- and a crash leaves the blobs that there were, or it too
 pub parts_crash : (gate new : Kept) (parts digest : List ℕ) (hasher : Sha256) {a b c : Disk} → new.name ≡ gate.name → Adds (record gate { begun = Some 0 }) new parts hasher a b → digest ≡ sha256 (begun_of b new)
     → Effect (IsName gate.name) (LeavesSealed gate.name a) a b → Effect (IsName new.name) (LeavesGrown new.name (begun_of b new ++ digest) b) b c → Effect (IsName gate.name) (LeavesGrown gate.name (with_digest parts) a) a c

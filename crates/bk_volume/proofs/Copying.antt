@@ -117,12 +117,6 @@ copying_more file at m n place next old mid new one two {a} {b} {c} named here m
       effect = copying_failed file at m old mid one named first effect;
     }
 
--- the part to be added lies in the file
-pub still_inside : (file : List ℕ) (at m n place len : ℕ) (old mid : Kept) (hasher : Sha256) {a b : Disk} → place + n ≤ at + len → at + len ≤ length (contents (a.files file)) → Copying file at m old mid hasher a b → place + n ≤ length (contents (b.files file))
-still_inside file at m n place len old mid hasher {a} {b} within inside first =
-    let same : length (contents (b.files file)) ≡ length (contents (a.files file)) = ap (λ (f : Option (List ℕ)). length (contents f)) first.copies.source in
-    omega (arith, within, inside, same)
-
 -- what adding changes of a gate
 pub gate_same : (old mid new : Kept) → mid ≡ record old { begun = mid.begun; is_closed = mid.is_closed } → new ≡ record mid { begun = new.begun; is_closed = true } → new ≡ record old { begun = new.begun; is_closed = new.is_closed }
 gate_same old mid new first second =

@@ -11,18 +11,16 @@ use Rattle.bk_bytes.specs.Field.{AreBytes, bytes_of}
 use Rattle.bk_bytes.specs.FieldLaws.{length-bytes_of}
 use Rattle.bk_header.specs.Conditions.{IsHeader, IsHeaderFile}
 use Rattle.bk_header.specs.Spelling.{text_bytes, branch_bytes, file_bytes, fixed_bytes, lists_bytes, spelling}
-use Rattle.bk_body.specs.SetConditions.{IsTable}
-use Rattle.bk_body.specs.SetSpelling.{table_bytes, log_bytes}
 use Rattle.bk_world.specs.declared.database.TableSpec.{TableSpec}
 use Rattle.bk_world.specs.declared.header.Header.{Header}
 use Rattle.bk_world.specs.declared.header.HeaderFile.{HeaderFile}
 use Rattle.bk_body.specs.Body.{Body}
-use Rattle.bk_body.specs.Conditions.{IsBody}
+use Rattle.bk_body.specs.Conditions.{IsTable, IsBody}
 use Rattle.bk_body.specs.FormLaws.{front_form-IsCodec, front_form-spelling, front_from}
 use Rattle.bk_body.specs.Laws.{tables_few}
 use Rattle.bk_body.specs.declared.front.Front.{Front}
 use Rattle.bk_body.specs.Reading.{front_form}
-use Rattle.bk_body.specs.Spelling.{front_bytes, extent_bytes, body_bytes}
+use Rattle.bk_body.specs.Spelling.{table_bytes, log_bytes, front_bytes, extent_bytes, body_bytes}
 use Rattle.bk_volume.specs.Opening.{SplitsFront, IsFrontOf, GivesFront}
 
 -- ---- lengths

@@ -4,7 +4,7 @@ use Rattle.std.specs.List.{flat_map, AllByRecursion}
 use Rattle.std.proofs.Math.Seq.{take-append_seam, drop-append_seam}
 use Rattle.std.proofs.lemmas.List.{take_all}
 use Rattle.bk_body.specs.Body.{Extent, Body}
-use Rattle.bk_body.specs.Conditions.{KeepsExtent, IsBody}
+use Rattle.bk_body.specs.Conditions.{IsTable, KeepsExtent, IsBody}
 use Rattle.bk_body.specs.Laws.{body_is}
 use Rattle.bk_body.specs.Spelling.{front_bytes, extent_bytes, body_bytes, set_bytes}
 use Rattle.bk_bytes.specs.Field.{bytes_of}
@@ -15,7 +15,6 @@ use Rattle.bk_device.specs.Disk.{Disk}
 use Rattle.bk_device.specs.Effects.{Effect, IsName}
 use Rattle.bk_gate.specs.Gate.{Kept, IsGate}
 use Rattle.bk_header.specs.Conditions.{IsHeader}
-use Rattle.bk_body.specs.SetConditions.{IsTable}
 use Rattle.bk_world.specs.declared.database.TableSpec.{TableSpec}
 use Rattle.bk_world.specs.declared.header.Header.{Header}
 use Rattle.bk_world.specs.declared.header.HeaderFile.{HeaderFile}

@@ -1,21 +1,18 @@
 -- The first blob of a file, and its sets.
 use Rattle.std.proofs.Common.{◌≡◌, ◌≤◌, ◌+◌, ℕ, zero, suc, Bool, true, false, List, [], ◌∷◌, length, map, Option, Some, None, refl, inl, inr, sym, ap, ◌∙◌, arith}
-use Rattle.std.specs.Prelude.{if◌then◌else◌, slice_get, unwrap_or, is_some, option_map}
+use Rattle.std.specs.Prelude.{if◌then◌else◌, slice_get, unwrap_or, is_some}
 use Rattle.std.specs.Str.{bytes_eq}
 use Rattle.std.proofs.lemmas.List.{length-map}
 use Rattle.std.proofs.lemmas.Slice.Eq.{bytes_eq-Decides}
 use Rattle.bk_world.specs.Medium.{not_media}
 use Rattle.bk_device.specs.Calls.{contents, read_at, filled}
-use Rattle.bk_device.specs.Disk.{Disk}
 use Rattle.bk_device.specs.Names.{true_or_false}
 use Rattle.bk_gate.specs.Blobs.{sealed, spans_of, part_of, blobs_in, IsGateFile}
 use Rattle.bk_gate.specs.BlobLaws.{foreign_blobs}
 use Rattle.bk_gate.specs.Laws.{span_inside, blobs_are}
 use Rattle.bk_device.specs.Laws.{length-read_at, filled_whole}
 use Rattle.bk_gate.specs.Gate.{Kept}
-use Rattle.bk_body.specs.Slots.{slot_of}
-use Rattle.bk_volume.specs.Media.{medium_letters, sets_in, HasSets, sets_of, reading_of, read_medium, slot_at, ShowsMedium, count_of, HasNoSet}
-use Rattle.bk_volume.specs.Laws.{shown_count}
+use Rattle.bk_volume.specs.Media.{medium_letters, sets_in, HasSets, sets_of, reading_of, read_medium, count_of}
 
 is_some_if : {A : Type 0} (b : Bool) (x : A) → is_some (if b then Some x else None) ≡ b
 is_some_if true x = refl
@@ -90,16 +87,3 @@ past : (sets : List (List ℕ)) (i : ℕ) → length sets ≤ i → slice_get se
 past [] i beyond = refl
 past (set ∷ sets) zero beyond = absurd (omega arith)
 past (set ∷ sets) (suc i) beyond = past sets i (omega arith)
-
-pub none_found : {a : Disk} {kept : Kept} (p : ℕ) → ShowsMedium a kept → HasNoSet kept p → slot_at (a.files kept.name) p ≡ None
-unfolding slot_at
-none_found zero is no_set = refl
-none_found {a = a} {kept = kept} (suc i) is no_set =
-    let beyond : length (sets_of (a.files kept.name)) ≤ i = elim no_set [ inl zero_is ↦ absurd (omega arith) | inr more ↦ omega (arith, shown_count is, more) ] in
-    ap (λ (o : Option (List ℕ)). option_map slot_of o) (past (sets_of (a.files kept.name)) i beyond)
-
--- a blob behind the first is a set
-pub set_slot_at : {a : Disk} {kept : Kept} (p : ℕ) (bytes : List ℕ) → ShowsMedium a kept → (p ≡ 0 → ⊥) → slice_get (sealed (a.files kept.name)) p ≡ Some bytes → slot_at (a.files kept.name) p ≡ Some (slot_of bytes)
-unfolding slot_at
-set_slot_at zero bytes is some there = absurd (some refl)
-set_slot_at (suc i) bytes is some there = ap (λ (o : Option (List ℕ)). option_map slot_of o) (ap (λ (blobs : List (List ℕ)). slice_get blobs (suc i)) (sym is.sets) ∙ there)

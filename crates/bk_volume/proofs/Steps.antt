@@ -60,13 +60,6 @@ added_crash name body bytes a b is_body spelled has effect =
       | inr grown ↦ inr (has_added body bytes (a.files name) (image name) is_body spelled has grown)
     ]) effect
 
--- the medium with the set that was added
-pub added_medium : (body : Body) (before : Option (List ℕ)) {b : Disk} {kept : Kept} → IsGate b kept → HasAdded (sets_of before) body (b.files kept.name) → IsMedium b kept
-added_medium body before {b = b} {kept = kept} gate added =
-    let are : sets_of (b.files kept.name) ≡ sets_of before ++ set_bytes body ∷ [] = sets_are (sets_of before ++ set_bytes body ∷ []) (b.files kept.name) added.has in
-    let Has : List (List ℕ) → Type 0 = λ sets. HasSets sets (b.files kept.name) in
-    record { gate = gate; sets = subst Has (sym are) added.has }
-
 pub none_sealed_at : {a : Disk} {kept : Kept} (name : List ℕ) → kept.name ≡ name → IsGate a kept → kept.spans ≡ [] → sealed (a.files name) ≡ []
 none_sealed_at {a = a} name is gate none = let At : List ℕ → Type 0 = λ n. sealed (a.files n) ≡ [] in subst At is (none_sealed gate none)
 
@@ -85,14 +78,6 @@ made_medium {a = a} {kept = kept} name is gate has =
 -- nothing was added
 pub add_none : {a : Disk} {kept : Kept} (body : Body) → IsMedium a kept → Effect (IsName kept.name) (λ image. LeavesAdded (sets_of (a.files kept.name)) body (image kept.name)) a a
 add_none {a = a} {kept = kept} body is = effect_none a (λ image mine. inl (medium_left (image kept.name) is (mine kept.name refl)))
-
--- the medium with the set that was sealed
-pub sealed_medium : (name : List ℕ) (body : Body) (bytes : List ℕ) (a b : Disk) (old new : Kept) → old.name ≡ name → new.name ≡ old.name → IsBody body → bytes ≡ set_bytes body → HasSets (sets_of (a.files name)) (a.files name)
-    → sealed (b.files old.name) ≡ sealed (a.files old.name) ++ bytes ∷ [] → IsGate b new → IsMedium b new
-sealed_medium name body bytes a b old new was is is_body spelled has grown gate =
-    let Grown : List ℕ → Type 0 = λ n. sealed (b.files n) ≡ sealed (a.files n) ++ bytes ∷ [] in
-    let Added : List ℕ → Type 0 = λ n. HasAdded (sets_of (a.files name)) body (b.files n) in
-    added_medium body (a.files name) gate (subst Added (sym (is ∙ was)) (has_added body bytes (a.files name) (b.files name) is_body spelled has (subst Grown was grown)))
 
 -- ---- opening a medium
 

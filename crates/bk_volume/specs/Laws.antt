@@ -1,6 +1,6 @@
 -- What the layers above may take of a medium.
-use Rattle.std.proofs.Common.{◌≡◌, ◌≢◌, ◌⊎◌, ◌≤◌, ◌<◌, ◌+◌, ℕ, zero, suc, Bool, List, [], ◌∷◌, ◌++◌, length, map, Option, Some, None, refl, inl, inr, sym, ap, subst, ◌∙◌, arith, add-one}
-use Rattle.std.specs.Prelude.{if◌then◌else◌, slice_get, unwrap_or, option_map}
+use Rattle.std.proofs.Common.{◌≡◌, ◌≢◌, ◌⊎◌, ℕ, Bool, List, [], ◌∷◌, ◌++◌, length, map, Option, Some, None, refl, inl, inr, sym, ap, subst, ◌∙◌, arith}
+use Rattle.std.specs.Prelude.{if◌then◌else◌, unwrap_or}
 use Rattle.std.proofs.lemmas.List.{map-append, length-map}
 use Rattle.std.proofs.lemmas.Slice.Eq.{bytes_eq-Decides}
 use Rattle.hex.specs.Hex.{encode_lower, decode_of}
@@ -14,13 +14,13 @@ use Rattle.bk_device.specs.Effects.{IsName, KeepsFiles}
 use Rattle.bk_gate.specs.Blobs.{sealed, part_of}
 use Rattle.bk_gate.specs.BlobLaws.{foreign_blobs}
 use Rattle.bk_gate.specs.Gate.{Kept}
-use Rattle.bk_gate.specs.Laws.{gate_kept, gate_left, gate_spans, gate_file, blobs_are}
+use Rattle.bk_gate.specs.Laws.{gate_kept, gate_left, blobs_are}
 use Rattle.bk_body.specs.Body.{Body}
 use Rattle.bk_body.specs.Spelling.{set_bytes}
-use Rattle.bk_body.specs.Slots.{holds, slot_of, shown_of}
+use Rattle.bk_body.specs.Slots.{shown_of}
 use Rattle.bk_body.specs.SlotLaws.{slot_spelled}
 use Rattle.bk_volume.specs.Names.{medium_file, staging_file, letter}
-use Rattle.bk_volume.specs.Media.{medium_letters, sets_in, HasSets, HasAdded, sets_of, slot_in, reading_of, read_medium, slot_at, IsMedium, ShowsMedium, count_of}
+use Rattle.bk_volume.specs.Media.{medium_letters, sets_in, HasSets, HasAdded, sets_of, slot_in, reading_of, read_medium, IsMedium, ShowsMedium, count_of}
 
 letters_first : (sets : List (List ℕ)) → sets_in (medium_letters ∷ sets) ≡ Some sets
 letters_first sets = ap (λ (b : Bool). if b then Some sets else None) ((bytes_eq-Decides medium_letters medium_letters).1 refl)
@@ -60,50 +60,15 @@ added_read sets body file added =
     sets_read (sets ++ set_bytes body ∷ []) file added.has
     ∙ ap (λ (slots : List Slot). Some (medium slots)) (map-append slot_in sets (set_bytes body ∷ []) ∙ ap (λ (slot : Slot). map slot_in sets ++ slot ∷ []) shown)
 
-last_set : (sets : List (List ℕ)) (set : List ℕ) → slice_get (sets ++ set ∷ []) (length sets) ≡ Some set
-last_set [] set = refl
-last_set (first ∷ sets) set = last_set sets set
-
-front_set : (sets : List (List ℕ)) (set : List ℕ) (i : ℕ) → i < length sets → slice_get (sets ++ set ∷ []) i ≡ slice_get sets i
-front_set [] set i inside = absurd (omega arith)
-front_set (first ∷ sets) set zero inside = refl
-front_set (first ∷ sets) set (suc i) inside = front_set sets set i (omega arith)
-
--- and is found there
-pub added_found : (sets : List (List ℕ)) (body : Body) (file : Option (List ℕ)) → HasAdded sets body file → slot_at file (length sets + 1) ≡ Some (holds body)
-unfolding slot_at
-added_found sets body file added =
-    let are = sets_are (sets ++ set_bytes body ∷ []) file added.has in
-    rw (add-one, are, last_set sets (set_bytes body), slot_spelled body added.is_body) refl
-
--- the others are found where they were
-pub added_others : (sets : List (List ℕ)) (body : Body) (before after : Option (List ℕ)) → HasSets sets before → HasAdded sets body after → (p : ℕ) → p ≤ length sets → slot_at after p ≡ slot_at before p
-unfolding slot_at
-added_others sets body before after has added zero inside = refl
-added_others sets body before after has added (suc i) inside =
-    let are : sets_of after ≡ sets ++ set_bytes body ∷ [] = sets_are (sets ++ set_bytes body ∷ []) after added.has in
-    let were : sets_of before ≡ sets = sets_are sets before has in
-    ap (λ (s : List (List ℕ)). option_map slot_of (slice_get s i)) are
-    ∙ ap (λ (o : Option (List ℕ)). option_map slot_of o) (front_set sets (set_bytes body) i (omega arith))
-    ∙ ap (λ (s : List (List ℕ)). option_map slot_of (slice_get s i)) (sym were)
-
 -- what is done under other names leaves the medium
 pub medium_kept : {a b : Disk} {kept : Kept} → KeepsFiles (IsName kept.name) a b → IsMedium a kept → IsMedium b kept
 medium_kept {a = a} {b = b} {kept = kept} keeps is =
     let Has : Option (List ℕ) → Type 0 = λ file. HasSets (sets_of file) file in
     record { gate = gate_kept keeps is.gate; sets = subst Has (sym (keeps.same kept.name refl)) is.sets }
 
--- and its sets
-pub medium_sets_kept : {a b : Disk} (name : List ℕ) → KeepsFiles (IsName name) a b → sets_of (b.files name) ≡ sets_of (a.files name)
-medium_sets_kept name keeps = ap sets_of (keeps.same name refl)
-
 -- each crash leaves the sets
 pub medium_left : {a : Disk} {kept : Kept} (content : Option (List ℕ)) → IsMedium a kept → a.may kept.name content → HasSets (sets_of (a.files kept.name)) content
 medium_left content is may = gate_left content is.gate may ∙ is.sets
-
--- a medium is shown by a read of its file
-pub medium_shown : {a : Disk} {kept : Kept} → IsMedium a kept → ShowsMedium a kept
-medium_shown is = record { gate_file = gate_file is.gate; spans = sym (gate_spans is.gate); sets = is.sets }
 
 -- the count is the number of the sets that a read shows
 pub shown_count : {a : Disk} {kept : Kept} → ShowsMedium a kept → count_of kept ≡ length (sets_of (a.files kept.name))
@@ -112,10 +77,6 @@ shown_count {a = a} {kept = kept} is =
     blobs_are (contents (a.files kept.name)) kept.spans is.gate_file is.spans in
     let same : map (part_of (contents (a.files kept.name))) kept.spans ≡ medium_letters ∷ sets_of (a.files kept.name) = sym blobs ∙ is.sets in
     omega (arith, ap (λ (parts : List (List ℕ)). length parts) same, length-map kept.spans (part_of (contents (a.files kept.name))))
-
--- and of the sets that it has
-pub medium_count : {a : Disk} {kept : Kept} → IsMedium a kept → count_of kept ≡ length (sets_of (a.files kept.name))
-medium_count is = shown_count (medium_shown is)
 
 -- media at different paths have different names
 pub names_differ : (path other : List ℕ) → AreBytes path → AreBytes other → medium_file path ≡ medium_file other → path ≡ other

@@ -1,8 +1,9 @@
-pub mod Names
-pub mod Media
-pub mod Staging
-pub mod Writing
-pub mod Stored
-pub mod Opening
 pub mod GuidNames
 pub mod Laws
+pub mod Media
+pub mod Names
+pub mod Opening
+pub mod Staging
+pub mod Stored
+pub mod Troubles
+pub mod Writing

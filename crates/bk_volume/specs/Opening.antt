@@ -1,11 +1,10 @@
 -- What the parts of a set give that is being opened.
 use Rattle.std.specs.Prelude.{◌≡◌, ◌<◌, ◌^◌, ℕ, List, ◌++◌, length, drop, Option, Some, None, Result, Ok, Err}
 use Rattle.std.specs.List.{flat_map}
-use Rattle.bk_body.specs.SetSpelling.{log_bytes}
 use Rattle.bk_body.specs.Body.{Body}
 use Rattle.bk_body.specs.declared.front.Front.{Front}
 use Rattle.bk_body.specs.Reading.{front_form}
-use Rattle.bk_body.specs.Spelling.{front_bytes, extent_bytes}
+use Rattle.bk_body.specs.Spelling.{log_bytes, front_bytes, extent_bytes}
 use Rattle.bk_volume.specs.declared.error.ReadError.{ReadError}
 use Rattle.bk_volume.specs.declared.error.ReadError.TheVariants.{Fault, NoMemory}
 use Rattle.bk_volume.specs.declared.error.SetError.{SetError}

@@ -8,7 +8,7 @@ ghost use Rattle.bk_device.specs.Disk.{IsDurable};
 ghost use Rattle.bk_device.specs.Effects.{Effect, IsName};
 ghost use Rattle.bk_gate.specs.Gate.{IsGate};
 ghost use Rattle.bk_header.specs.Conditions.{IsHeader, KeepsConditions};
-ghost use Rattle.bk_body.specs.SetConditions.{IsTable};
+ghost use Rattle.bk_body.specs.Conditions.{IsTable};
 ghost use Rattle.bk_volume.specs.Staging.{IsStaged, staged};
 ghost use Rattle.bk_volume.specs.Writing.{parts_of, with_digest, HasSealed, LeavesGrown};
 
@@ -98,6 +98,5 @@ pub fn seal_around<D: Device>(
         &around.front,
         &around.size,
         around.buffer.as_mut_slice(),
-    )?;
-    Ok(())
+    )
 }

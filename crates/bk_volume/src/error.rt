@@ -1,11 +1,12 @@
 //! Why a medium couldn't be opened, made or emptied, or a set couldn't be begun, sealed or read.
 ghost use Rattle.std.specs.Prelude.{◌≡◌};
+ghost use Rattle.bk_volume.specs.Troubles.{FromWrite};
 ghost use Rattle.bk_volume.specs.declared.error.WriteError.TheVariants.{Fault, NoMemory};
 ghost use Rattle.bk_volume.specs.declared.error.LoadError.TheVariants as load;
 ghost use Rattle.bk_volume.specs.declared.error.SetError.TheVariants as set;
 ghost use Rattle.bk_volume.specs.declared.error.ReadError.TheVariants as read;
 
-use bk_device::Failed;
+use bk_device::{Failed, Trouble};
 use std::alloc::AllocError;
 use thiserror::Error;
 
@@ -129,5 +130,16 @@ impl From<AllocError> for ReadError {
 
     fn from(_: AllocError) -> ReadError {
         ReadError::NoMemory
+    }
+}
+
+impl From<WriteError> for Trouble {
+    ghost from_gives = { FromWrite };
+
+    fn from(error: WriteError) -> Self {
+        match error {
+            WriteError::Fault => Trouble::Fault,
+            WriteError::NoMemory => Trouble::NoMemory,
+        }
     }
 }

@@ -111,6 +111,5 @@ pub fn start_again<D: Device>(dev: &mut D, gate: &mut Gate) -> Result<(), Failed
     ensures cause { HasCause D.disk_faults D.tell_faults dev.old dev.new (IsErr result) }
 {
     gate.clear(dev)?;
-    gate.append_reserved(dev, &LETTERS)?;
-    Ok(())
+    gate.append_reserved(dev, &LETTERS)
 }

@@ -63,8 +63,7 @@ fn copy_piece<D: Device>(
     ensures cause { HasCause D.disk_faults D.tell_faults dev.old dev.new (IsErr result) }
 {
     dev.read(from, at, buffer)?;
-    put(dev, gate, hasher, buffer)?;
-    Ok(())
+    put(dev, gate, hasher, buffer)
 }
 
 // Adds `len` bytes of a file from `at` on to the blob that is begun, in pieces of the buffer's length.
@@ -99,6 +98,5 @@ pub fn copy_part<D: Device>(
     }
     let rest = len % PIECE_BYTES;
     let end = &mut buffer[..rest as usize];
-    copy_piece(dev, gate, hasher, from, at + (len - rest), end)?;
-    Ok(())
+    copy_piece(dev, gate, hasher, from, at + (len - rest), end)
 }

@@ -65,8 +65,7 @@ fn put_parts<D: Device>(
         parts.extents,
         parts.log,
         buffer,
-    )?;
-    Ok(())
+    )
 }
 
 // Adds the digest to the blob that is begun, and seals it.
@@ -120,8 +119,7 @@ pub fn seal_parts<D: Device>(
     gate.begin();
     put_parts(dev, gate, &mut hasher, parts, buffer)?;
     let digest = hasher.finalize();
-    seal_digest(dev, gate, &digest)?;
-    Ok(())
+    seal_digest(dev, gate, &digest)
 }
 
 /// Seals a blob of a front, the extents of a set that is being written, the length of its log and the log, and their digest,

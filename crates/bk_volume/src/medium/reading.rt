@@ -22,9 +22,9 @@ use std::alloc::Global;
 impl Medium {
     /// Opens the set at position `p`, from 1, by one pass over its bytes in pieces of at most 1 MiB. Changes nothing.
     ///
-    /// `NoSuchSet` is answered exactly where `p` is 0 or above the count, `Damaged` exactly where the digest that the slot
-    /// stores isn't the one of its bytes, `NotMedia` only where the slot holds no set. A slot with its digest that holds no
-    /// set is opened where it has a front, and a log of the length that it says: its extents and its log aren't looked at.
+    /// `NoSuchSet` is answered exactly where `p` is 0 or above the count, `Damaged` exactly where the slot doesn't store the
+    /// digest of its bytes, `NotMedia` only where it holds no set. A slot with its digest is opened where it has a front, and
+    /// a log of that length: extents and log aren't looked at.
     pub fn open_set<D: Device>(
         &self,
         alloc: Global,

@@ -3,8 +3,7 @@ use Rattle.std.specs.Prelude.{◌&&◌}
 use Rattle.std.proofs.lemmas.Bool.{and_parts, ltb-true, eqb-true, eq-eqb}
 use Rattle.bk_lemmas.specs.Tests.{test_false}
 use Rattle.bk_record.specs.View.{body_of, record_of}
-use Rattle.bk_set.specs.Reading.{keep_tables}
-use Rattle.bk_body.specs.Reading.{keeps_deed}
+use Rattle.bk_body.specs.Reading.{keep_tables, keeps_deed}
 use Rattle.bk_body.proofs.Logs.{starts, goes_on, fits_not, too_many, ends, never_bad}
 use Rattle.bk_body.proofs.log.is_log_of.Goals as goal
 

@@ -1,7 +1,7 @@
 use Rattle.std.proofs.lemmas.Result.{err_from_is_err_and}
 use Rattle.bk_bytes.specs.Codec.{times_at}
 use Rattle.bk_bytes.specs.LoopLaws.{goes_on, is_done}
-use Rattle.bk_set.specs.Reading.{table_form}
+use Rattle.bk_body.specs.Reading.{table_form}
 use Rattle.bk_reading.specs.Laws.{refuses_list}
 use Rattle.bk_body.proofs.tables.read_so_many.Goals as goal
 

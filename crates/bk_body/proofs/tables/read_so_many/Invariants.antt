@@ -1,7 +1,7 @@
 use Rattle.std.proofs.Common.{◌≡◌, ◌-◌}
 use Rattle.bk_bytes.specs.Codec.{times_at}
 use Rattle.bk_bytes.specs.LoopLaws.{with_front}
-use Rattle.bk_set.specs.Reading.{table_form}
+use Rattle.bk_body.specs.Reading.{table_form}
 use Rattle.bk_body.proofs.tables.read_so_many.Given as goal
 
 abbrev pub invariant-loop : goal.invariant-loop

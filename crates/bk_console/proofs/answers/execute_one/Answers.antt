@@ -1,7 +1,7 @@
 use Rattle.std.proofs.Common.{◌≡◌, ap, subst, sym, Err}
 use Rattle.std.proofs.lemmas.Result.{err_from_is_err_and}
+use Rattle.bk_device.specs.declared.trouble.Trouble.TheVariants.{Broken}
 use Rattle.bk_executing.specs.EngineStands.{StandsFor}
-use Rattle.bk_executing.specs.declared.error.ExecuteError.TheVariants.{Broken}
 use Rattle.bk_console.proofs.Asking.{OnErr-from}
 use Rattle.bk_console.proofs.Executing.{was-done, was-not_done}
 use Rattle.bk_console.proofs.answers.execute_one.Goals as goal

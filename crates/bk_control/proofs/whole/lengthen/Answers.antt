@@ -1,3 +1,4 @@
+use Rattle.std.proofs.lemmas.Result.{on_ok_weaker}
 use Rattle.std.proofs.Common.{ap, arith}
 use Rattle.bk_device.specs.Calls.{contents}
 use Rattle.bk_device.specs.Laws.{cause_then}
@@ -21,4 +22,4 @@ pieces-preserved g c = record {
 
 pub returns-clause-lengthened : goal.returns-clause-lengthened
 returns-clause-lengthened g c t =
-    lengthens_end c.pieces.at c.args.to _ _ _ (omega (arith, c.pieces.invariant.order, c.requires.from t)) (omega (arith, c.pieces-test.false)) (omega (arith, c.pieces.invariant.bound, c.requires.from t)) (c.pieces.invariant.file t) (ap contents (c.in_ok-sync.ensures.same t))
+    on_ok_weaker c.sync.result (λ same. lengthens_end c.pieces.at c.args.to _ _ _ (omega (arith, c.pieces.invariant.order, c.requires.from t)) (omega (arith, c.pieces-test.false)) (omega (arith, c.pieces.invariant.bound, c.requires.from t)) (c.pieces.invariant.file t) (ap contents same)) (c.sync.ensures.same t)

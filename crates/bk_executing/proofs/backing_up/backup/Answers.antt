@@ -1,7 +1,9 @@
 use Rattle.std.proofs.Common.{inl}
 use Rattle.std.proofs.lemmas.Result.{err_from_is_err_and}
+use Rattle.bk_device.specs.declared.trouble.Trouble.TheVariants.{Broken}
 use Rattle.bk_engine.specs.ViewLaws.{remembers}
-use Rattle.bk_executing.proofs.Backing.{knows-backup, room-there, unfit-broken}
+use Rattle.bk_executing.proofs.RestoringDone.{other-error}
+use Rattle.bk_executing.proofs.Backing.{knows-backup, room-there}
 use Rattle.bk_executing.proofs.Planned.{plan-executed, plan-failed, plan-touches, standing-nothing, touches-nothing}
 use Rattle.bk_executing.proofs.Results.{on-error}
 use Rattle.bk_executing.proofs.backing_up.backup.Goals as goal
@@ -21,7 +23,7 @@ returns-in_err-plan-clause-touches g c tells = touches-nothing (c.room_at.ensure
 pub returns-in_err-plan-clause-broken : goal.returns-in_err-plan-clause-broken
 returns-in_err-plan-clause-broken g c tells =
     let p = err_from_is_err_and c.from_residual-in_err-plan.result c.from_residual-in_err-plan.ensures.1 in
-    rw (p.1, p.2) (λ is w stands. c.in_err-plan.ensures.unfit (unfit-broken c.in_err-plan.field-0.0 is) w stands.sound (remembers (g.D.Device.disk c.args.dev.now) c.args.engine.now w stands) (room-there w c.args.disk.now c.as_str.result.now c.in_ok-room.room c.as_str.ensures (c.in_ok-room.ensures.room tells w stands.media)))
+    rw (p.1, p.2) (λ is w stands. c.in_err-plan.ensures.broken (other-error c.in_err-plan.field-0.0 Broken is) w stands.sound (remembers (g.D.Device.disk c.args.dev.now) c.args.engine.now w stands) (room-there w c.args.disk.now c.as_str.result.now c.in_ok-room.room c.as_str.ensures (c.in_ok-room.ensures.room tells w stands.media)))
 
 pub follow-requires-clause-standing : goal.follow-requires-clause-standing
 follow-requires-clause-standing g c = λ tells. standing-nothing (g.D.Device.disk c.args.dev.now) (g.D.Device.disk c.room_at.new.dev) c.args.engine.now.hosting.stores (c.room_at.ensures.effect tells) (c.requires.standing tells)

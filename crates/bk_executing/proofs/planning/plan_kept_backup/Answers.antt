@@ -1,8 +1,9 @@
-use Rattle.bk_executing.proofs.Planned.{planned-all}
+use Rattle.std.proofs.Common.{rules}
+use Rattle.bk_executing.proofs.Planned.{planned}
 use Rattle.bk_executing.proofs.planning.plan_kept_backup.Goals as goal
 
-pub returns-clause-plans : goal.returns-clause-plans
-returns-clause-plans c = planned-all c.in_ok-seen.seen c.args.engine.now _ _ c.args.now c.plan_backup.result c.in_ok-seen.ensures.sees c.plan_backup.ensures.plans
+pub returns-in-Ok-clause-plans : goal.returns-in-Ok-clause-plans
+returns-in-Ok-clause-plans c = planned c.in_ok-seen.seen c.args.engine.now _ _ c.args.now c.in-Ok.plan c.in_ok-seen.ensures.sees c.in-Ok.ensures.plans
 
-pub returns-clause-unfit : goal.returns-clause-unfit
-returns-clause-unfit c = λ is w sound has known. c.plan_backup.ensures.unfit is w sound (c.in_ok-seen.ensures.sees w has) known
+pub returns-in-Err-Unfit-clause-broken : goal.returns-in-Err-Unfit-clause-broken
+returns-in-Err-Unfit-clause-broken c = λ is w sound has known. c.in-Err-Unfit.ensures.unfit (search rules) w sound (c.in_ok-seen.ensures.sees w has) known

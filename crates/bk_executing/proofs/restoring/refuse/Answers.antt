@@ -1,6 +1,7 @@
 use Rattle.std.proofs.Common.{inl, Err, subst}
 use Rattle.std.proofs.lemmas.Result.{err_from_is_err_and}
 use Rattle.bk_device.specs.Laws.{nothing_yet}
+use Rattle.bk_device.specs.declared.trouble.Trouble.TheVariants.{Broken}
 use Rattle.bk_engine.specs.TouchLaws.{wider-touch}
 use Rattle.bk_engine.specs.ViewLaws.{remembers}
 use Rattle.bk_items.specs.declared.item.ScriptItem.TheVariants as script
@@ -10,7 +11,7 @@ use Rattle.bk_media_plans.specs.Found.{FindsSet}
 use Rattle.bk_plans.specs.declared.parts.Plan.TheVariants as plan
 use Rattle.bk_executing.specs.Planned.{IsRestorePlanned}
 use Rattle.bk_executing.proofs.Planned.{plan-executed, plan-failed, touches-nothing}
-use Rattle.bk_executing.proofs.RestoringDone.{finds-none, refused-knows, refused-plan, unfit-set}
+use Rattle.bk_executing.proofs.RestoringDone.{finds-none, other-error, refused-knows, refused-plan}
 use Rattle.bk_executing.proofs.Results.{on-error}
 use Rattle.bk_executing.proofs.restoring.refuse.Goals as goal
 
@@ -25,7 +26,7 @@ returns-in_err-plan-clause-touches g c tells =
 pub returns-in_err-plan-clause-broken : goal.returns-in_err-plan-clause-broken
 returns-in_err-plan-clause-broken g c tells =
     let p = err_from_is_err_and c.from_residual.result c.from_residual.ensures.1 in
-    rw (p.1, p.2) (λ is w stands. c.in_err-plan.ensures.unfit (unfit-set c.in_err-plan.field-0.0 is) w stands.sound (remembers (g.D.Device.disk c.args.dev.now) c.args.engine.now w stands) (finds-none (position_of c.args.options.now.file) c.args.disk.now c.args.rule w (c.requires.refused tells w stands)))
+    rw (p.1, p.2) (λ is w stands. c.in_err-plan.ensures.broken (other-error c.in_err-plan.field-0.0 Broken is) w stands.sound (remembers (g.D.Device.disk c.args.dev.now) c.args.engine.now w stands) (finds-none (position_of c.args.options.now.file) c.args.disk.now c.args.rule w (c.requires.refused tells w stands)))
 
 pub returns-in-Refused-clause-executed : goal.returns-in-Refused-clause-executed
 returns-in-Refused-clause-executed g c =

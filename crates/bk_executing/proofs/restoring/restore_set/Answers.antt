@@ -1,6 +1,7 @@
 use Rattle.std.proofs.Common.{inl, inr, List, Ok, refl, subst}
 use Rattle.std.proofs.lemmas.Result.{err_from_is_err_and}
 use Rattle.bk_device.specs.Compose.{effect_then}
+use Rattle.bk_device.specs.declared.trouble.Trouble.TheVariants.{Broken}
 use Rattle.bk_engine.specs.TouchLaws.{wider-touch}
 use Rattle.bk_engine.specs.ViewLaws.{remembers}
 use Rattle.bk_items.specs.declared.item.ScriptItem.TheVariants as script
@@ -11,10 +12,9 @@ use Rattle.bk_media_plans.specs.Found.{FindsSet}
 use Rattle.bk_media_plans.specs.RestorePlans.{KeepsSet}
 use Rattle.bk_plans.specs.declared.parts.Plan.TheVariants as plan
 use Rattle.bk_world.specs.declared.database.TableSpec.{TableSpec}
-use Rattle.bk_executing.specs.declared.error.ExecuteError.TheVariants.{Broken}
 use Rattle.bk_executing.specs.Planned.{IsRestorePlanned}
 use Rattle.bk_executing.proofs.Planned.{plan-executed, plan-failed, standing-nothing, touches-nothing}
-use Rattle.bk_executing.proofs.RestoringDone.{brings-cut, brings-executed, brings-never, finds-set, finds-parts, kept-up, moves-only, of-set, other-error, parts, refused-knows, refused-plan, unfit-set}
+use Rattle.bk_executing.proofs.RestoringDone.{brings-cut, brings-executed, brings-never, finds-set, finds-parts, kept-up, moves-only, of-set, other-error, parts, refused-knows, refused-plan}
 use Rattle.bk_executing.proofs.Results.{on-error}
 use Rattle.bk_executing.proofs.restoring.restore_set.Goals as goal
 
@@ -42,7 +42,7 @@ returns-in_err-plan-clause-touches g c tells =
 pub returns-in_err-plan-clause-broken : goal.returns-in_err-plan-clause-broken
 returns-in_err-plan-clause-broken g c tells =
     let p = err_from_is_err_and c.from_residual-in_err-plan.result c.from_residual-in_err-plan.ensures.1 in
-    rw (p.1, p.2) (λ is w stands. c.in_err-plan.ensures.unfit (unfit-set c.in_err-plan.field-0.0 is) w stands.sound (remembers (g.D.Device.disk c.args.dev.now) c.args.engine.now w stands)
+    rw (p.1, p.2) (λ is w stands. c.in_err-plan.ensures.broken (other-error c.in_err-plan.field-0.0 Broken is) w stands.sound (remembers (g.D.Device.disk c.args.dev.now) c.args.engine.now w stands)
     (finds-parts (position_of c.args.options.now.file) c.args.disk.now w c.header.result.now c.tables.result.now c.in_ok-log.log c.args.opened.now.set c.header.ensures c.tables.ensures (finds-set (position_of c.args.options.now.file) c.args.disk.now ((g.D.Device.disk c.args.dev.now).files c.args.opened.now.medium.name) c.args.opened.now.set c.in_ok-log.log w (c.requires.opened tells w stands) (c.in_ok-log.ensures.log tells))))
 
 pub follow-requires-clause-standing : goal.follow-requires-clause-standing

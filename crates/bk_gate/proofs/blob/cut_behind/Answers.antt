@@ -1,3 +1,4 @@
+use Rattle.std.proofs.lemmas.Result.{on_ok_weaker}
 use Rattle.std.proofs.Common.{refl}
 use Rattle.bk_gate.proofs.Steps.{cut_crash, cut_sealed, cut_quiet, cut_there, quiet_none}
 use Rattle.bk_gate.proofs.blob.cut_behind.Goals as goal
@@ -7,26 +8,21 @@ cut-requires g c t =
     let quiet = c.requires t in
     cut_there _ c.args.end _ quiet.1.inside refl
 
-pub returns-in_err-cut-clause-crash : goal.returns-in_err-cut-clause-crash
-returns-in_err-cut-clause-crash g c t =
-    let quiet = c.requires t in
-    cut_crash quiet.0 c.args.end _ c.args.name.now (g.D.Device.disk c.args.dev.now) (g.D.Device.disk c.cut.new.self) quiet.1 refl (c.cut.ensures.effect t)
-
-pub returns-in_ok-cut-clause-crash : goal.returns-in_ok-cut-clause-crash
-returns-in_ok-cut-clause-crash g c t =
-    let quiet = c.requires t in
-    cut_crash quiet.0 c.args.end _ c.args.name.now (g.D.Device.disk c.args.dev.now) (g.D.Device.disk c.cut.new.self) quiet.1 refl (c.cut.ensures.effect t)
-
-pub returns-in_ok-cut-clause-sealed : goal.returns-in_ok-cut-clause-sealed
-returns-in_ok-cut-clause-sealed g c t =
-    let quiet = c.requires t in
-    cut_sealed quiet.0 c.args.end _ c.args.name.now (g.D.Device.disk c.args.dev.now) (g.D.Device.disk c.cut.new.self) quiet.1 refl (c.in_ok-cut.ensures.cut t)
-
-pub returns-in_ok-cut-clause-quiet : goal.returns-in_ok-cut-clause-quiet
-returns-in_ok-cut-clause-quiet g c t spans quiet =
-    cut_quiet spans c.args.end _ c.args.name.now (g.D.Device.disk c.args.dev.now) (g.D.Device.disk c.cut.new.self) quiet refl (c.cut.ensures.effect t) (c.in_ok-cut.ensures.cut t)
-
-pub returns-else-end-lt18446744073709551615-clause-crash : goal.returns-else-end-lt18446744073709551615-clause-crash
-returns-else-end-lt18446744073709551615-clause-crash g c t =
+pub returns-then-end-eq18446744073709551615-clause-crash : goal.returns-then-end-eq18446744073709551615-clause-crash
+returns-then-end-eq18446744073709551615-clause-crash g c t =
     let quiet = c.requires t in
     quiet_none quiet.0 c.args.end c.args.name.now (g.D.Device.disk c.args.dev.now) quiet.1
+
+pub returns-clause-crash : goal.returns-clause-crash
+returns-clause-crash g c t =
+    let quiet = c.requires t in
+    cut_crash quiet.0 c.args.end _ c.args.name.now (g.D.Device.disk c.args.dev.now) (g.D.Device.disk c.cut.new.self) quiet.1 refl (c.cut.ensures.effect t)
+
+pub returns-clause-sealed : goal.returns-clause-sealed
+returns-clause-sealed g c t =
+    let quiet = c.requires t in
+    on_ok_weaker c.cut.result (cut_sealed quiet.0 c.args.end _ c.args.name.now (g.D.Device.disk c.args.dev.now) (g.D.Device.disk c.cut.new.self) quiet.1 refl) (c.cut.ensures.cut t)
+
+pub returns-clause-quiet : goal.returns-clause-quiet
+returns-clause-quiet g c t spans quiet =
+    on_ok_weaker c.cut.result (cut_quiet spans c.args.end _ c.args.name.now (g.D.Device.disk c.args.dev.now) (g.D.Device.disk c.cut.new.self) quiet refl (c.cut.ensures.effect t)) (c.cut.ensures.cut t)

@@ -1,9 +1,10 @@
-use Rattle.std.proofs.Common.{◌≡◌, ◌≤◌, ◌+◌, ◌∷◌, [], ◌∙◌, length, ap, sym, subst, arith, List, ℕ, refl}
+use Rattle.std.proofs.lemmas.Result.{on_ok_weaker}
+use Rattle.std.proofs.Common.{◌≡◌, ◌≤◌, ◌+◌, ◌∷◌, [], ◌∙◌, length, ap, sym, subst, arith, List, ℕ, refl, ◌<◌, ◌^◌}
 use Rattle.bk_device.specs.Calls.{contents, written}
 use Rattle.bk_gate.specs.BlobLaws.{laid, adds_length}
 use Rattle.bk_gate.specs.Blobs.{sealed}
 use Rattle.bk_gate.specs.Gate.{IsLaid}
-use Rattle.bk_gate.proofs.Steps.{keeps_then, only_cause, last_cause}
+use Rattle.bk_gate.proofs.Steps.{keeps_then, only_cause, last_cause, on_ok_any}
 use Rattle.bk_gate.proofs.blob.lay_long.Goals as goal
 
 pub append-requires-2-clause-inside : goal.append-requires-2-clause-inside
@@ -22,10 +23,11 @@ returns-clause-laid g c t =
     let bytes = c.args.bytes.now in
     let end = c.args.end in
     let before = contents ((disk c.lay_length.new.dev).files name) in
-    let file : contents ((disk c.settle.new.dev).files name) ≡ written (written before (end + 9) bytes) (end + 9 + length bytes) (0 ∷ []) =
-    ap contents (c.in_ok-settle.ensures.same t) ∙ ap contents (c.in_ok-append-2.ensures.written t) ∙ ap (λ (f : List ℕ). written f (end + 9 + length bytes) (0 ∷ [])) (ap contents (c.in_ok-append.ensures.written t)) in
+    let file : contents ((disk c.append-2.new.dev).files name) ≡ written (written before (end + 9) bytes) (end + 9 + length bytes) (0 ∷ []) =
+    ap contents (c.in_ok-append-2.ensures.written t) ∙ ap (λ (f : List ℕ). written f (end + 9 + length bytes) (0 ∷ [])) (ap contents (c.in_ok-append.ensures.written t)) in
     let Laid : List ℕ → Type 0 = IsLaid end bytes in
-    subst Laid (sym file) (laid end bytes before (c.in_ok-lay_length.ensures.room t) (omega arith) (c.in_ok-lay_length.ensures.size t))
+    let all = laid end bytes before (c.in_ok-lay_length.ensures.room t) (omega arith) (c.in_ok-lay_length.ensures.size t) in
+    on_ok_weaker c.settle.result (λ same. subst Laid (sym (ap contents same ∙ file)) all) (c.settle.ensures.same t)
 
 pub returns-in_err-append-2-clause-crash : goal.returns-in_err-append-2-clause-crash
 returns-in_err-append-2-clause-crash g c t =
@@ -33,14 +35,6 @@ returns-in_err-append-2-clause-crash g c t =
     let name = c.args.name.now in
     keeps_then name (disk c.args.dev.now) (disk c.lay_length.new.dev) (disk c.append-2.new.dev) (c.in_ok-lay_length.ensures.sealed t) (c.lay_length.ensures.crash t)
     (keeps_then name (disk c.lay_length.new.dev) (disk c.append.new.dev) (disk c.append-2.new.dev) (c.in_ok-append.ensures.sealed t) (c.append.ensures.crash t) (c.append-2.ensures.crash t))
-
-pub returns-in_err-settle-clause-crash : goal.returns-in_err-settle-clause-crash
-returns-in_err-settle-clause-crash g c t =
-    let disk = g.D.Device.disk in
-    let name = c.args.name.now in
-    keeps_then name (disk c.args.dev.now) (disk c.lay_length.new.dev) (disk c.settle.new.dev) (c.in_ok-lay_length.ensures.sealed t) (c.lay_length.ensures.crash t)
-    (keeps_then name (disk c.lay_length.new.dev) (disk c.append.new.dev) (disk c.settle.new.dev) (c.in_ok-append.ensures.sealed t) (c.append.ensures.crash t)
-    (keeps_then name (disk c.append.new.dev) (disk c.append-2.new.dev) (disk c.settle.new.dev) (c.in_ok-append-2.ensures.sealed t) (c.append-2.ensures.crash t) (c.settle.ensures.crash t)))
 
 pub returns-clause-crash : goal.returns-clause-crash
 returns-clause-crash g c t =
@@ -89,24 +83,21 @@ pub returns-in_err-append-2-clause-cause : goal.returns-in_err-append-2-clause-c
 returns-in_err-append-2-clause-cause g c =
     last_cause c.in_ok-lay_length.ensures.cause (last_cause c.in_ok-append.ensures.cause c.in_err-append-2.ensures.cause (λ _. refl)) (λ is. is)
 
-pub returns-in_err-settle-clause-cause : goal.returns-in_err-settle-clause-cause
-returns-in_err-settle-clause-cause g c =
-    last_cause c.in_ok-lay_length.ensures.cause (last_cause c.in_ok-append.ensures.cause (last_cause c.in_ok-append-2.ensures.cause c.in_err-settle.ensures.cause (λ _. refl)) (λ is. is)) (λ is. is)
-
 pub returns-clause-quiet : goal.returns-clause-quiet
 returns-clause-quiet g c t spans quiet =
-    c.in_ok-settle.ensures.quiet t spans (c.in_ok-append-2.ensures.quiet t spans (c.in_ok-append.ensures.quiet t spans (c.in_ok-lay_length.ensures.quiet t spans quiet)))
+    c.settle.ensures.quiet t spans (c.in_ok-append-2.ensures.quiet t spans (c.in_ok-append.ensures.quiet t spans (c.in_ok-lay_length.ensures.quiet t spans quiet)))
 
 pub returns-clause-durable : goal.returns-clause-durable
-returns-clause-durable g c = c.in_ok-settle.ensures.durable
+returns-clause-durable g c = c.settle.ensures.durable
 
 pub returns-clause-sealed : goal.returns-clause-sealed
 returns-clause-sealed g c t =
-    ap sealed (c.in_ok-settle.ensures.same t) ∙ c.in_ok-append-2.ensures.sealed t ∙ c.in_ok-append.ensures.sealed t ∙ c.in_ok-lay_length.ensures.sealed t
+    on_ok_weaker c.settle.result (λ same. ap sealed same ∙ c.in_ok-append-2.ensures.sealed t ∙ c.in_ok-append.ensures.sealed t ∙ c.in_ok-lay_length.ensures.sealed t) (c.settle.ensures.same t)
 
 pub returns-clause-small : goal.returns-clause-small
-returns-clause-small g c = omega (arith, c.in_ok-append-2.ensures.small)
+returns-clause-small g c =
+    let small : c.args.end + 9 + length c.args.bytes.now < 2 ^ 62 = omega (arith, c.in_ok-append-2.ensures.small) in
+    on_ok_any c.settle.result small
 
 pub returns-clause-cause : goal.returns-clause-cause
-returns-clause-cause g c =
-    last_cause c.in_ok-lay_length.ensures.cause (last_cause c.in_ok-append.ensures.cause (last_cause c.in_ok-append-2.ensures.cause c.in_ok-settle.ensures.cause (λ is. is)) (λ is. is)) (λ is. is)
+returns-clause-cause g c = last_cause c.in_ok-lay_length.ensures.cause (last_cause c.in_ok-append.ensures.cause (last_cause c.in_ok-append-2.ensures.cause c.settle.ensures.cause (λ is. is)) (λ is. is)) (λ is. is)

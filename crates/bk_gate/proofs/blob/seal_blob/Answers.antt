@@ -45,11 +45,6 @@ returns-clause-quiet g c t spans at =
     let Is : Bool → Type 0 = λ b. IsAt spans c.args.end b c.args.name.now (disk c.args.dev.now) in
     open_quiet spans c.args.end c.args.len c.args.name.now (disk c.finish.new.dev) (disk c.write_durably.new.dev) (c.in_ok-finish.ensures.quiet t spans (subst Is (c.requires.room t more).0 at)) (c.in_ok-finish.ensures.prepared t) (c.in_ok-write_durably.ensures.written t) (c.in_ok-write_durably.ensures.durable t)
 
-pub returns-in_err-next-clause-crash : goal.returns-in_err-next-clause-crash
-returns-in_err-next-clause-crash g c t =
-    let none : c.args.len ≡ 0 = omega arith in
-    rw none (c.append_blob.ensures.crash t)
-
 pub returns-then-len-eq0-clause-crash : goal.returns-then-len-eq0-clause-crash
 returns-then-len-eq0-clause-crash g c t =
     let none : c.args.len ≡ 0 = omega arith in
@@ -58,24 +53,21 @@ returns-then-len-eq0-clause-crash g c t =
 pub returns-then-len-eq0-clause-sealed : goal.returns-then-len-eq0-clause-sealed
 returns-then-len-eq0-clause-sealed g c t =
     let none : c.args.len ≡ 0 = omega arith in
-    rw none (c.in_ok-next.ensures.sealed t)
+    rw none (c.append_blob.ensures.sealed t)
 
 pub returns-then-len-eq0-clause-quiet : goal.returns-then-len-eq0-clause-quiet
 returns-then-len-eq0-clause-quiet g c t spans at =
     let none : c.args.len ≡ 0 = omega arith in
-    rw none (c.in_ok-next.ensures.quiet t spans at)
+    rw none (c.append_blob.ensures.quiet t spans at)
 
 pub append_blob-requires : goal.append_blob-requires
 append_blob-requires g c = c.requires.at
 
-pub returns-in_err-next-clause-cause : goal.returns-in_err-next-clause-cause
-returns-in_err-next-clause-cause g c = only_cause c.in_err-next.ensures.cause (λ _. refl)
-
 pub returns-then-len-eq0-clause-durable : goal.returns-then-len-eq0-clause-durable
-returns-then-len-eq0-clause-durable g c = c.in_ok-next.ensures.durable
+returns-then-len-eq0-clause-durable g c = c.append_blob.ensures.durable
 
 pub returns-then-len-eq0-clause-cause : goal.returns-then-len-eq0-clause-cause
-returns-then-len-eq0-clause-cause g c = only_cause c.in_ok-next.ensures.cause (λ is. is)
+returns-then-len-eq0-clause-cause g c = c.append_blob.ensures.cause
 
 pub finish-requires-clause-inside : goal.finish-requires-clause-inside
 finish-requires-clause-inside g c t = (c.requires.room t (omega arith)).1

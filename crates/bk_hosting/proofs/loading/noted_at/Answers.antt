@@ -4,7 +4,7 @@ use Rattle.bk_known.specs.declared.known.Known.{Known}
 use Rattle.bk_machine.specs.declared.job.Job.{Job}
 use Rattle.bk_machine.specs.statements.Restore.{is_online}
 use Rattle.bk_points.specs.declared.points.Points.{Points}
-use Rattle.bk_stores.specs.declared.error.StoresError.TheVariants.{Broken}
+use Rattle.bk_device.specs.declared.trouble.Trouble.TheVariants.{Broken}
 use Rattle.bk_world.specs.declared.transaction.Open.{Open}
 use Rattle.bk_hosting.specs.Hosting.{known_at}
 use Rattle.bk_hosting.proofs.Parked.{noted-as, parked-known, state-down}

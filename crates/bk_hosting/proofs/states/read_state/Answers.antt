@@ -1,6 +1,6 @@
 use Rattle.std.proofs.Common.{rules, ◌≡◌, ◌∙◌, ℕ, List, sym, ap, subst}
 use Rattle.std.specs.Prelude.{IsErrOf}
-use Rattle.bk_stores.specs.declared.error.StoresError.TheVariants.{Broken}
+use Rattle.bk_device.specs.declared.trouble.Trouble.TheVariants.{Broken}
 use Rattle.bk_world.specs.declared.database.FileSpec.{FileSpec}
 use Rattle.bk_hosting.specs.Hosting.{IsNoteOf}
 use Rattle.bk_hosting.proofs.states.read_state.Goals as goal

@@ -2,7 +2,7 @@ use Rattle.std.proofs.Common.{rules, ◌∙◌, sym}
 use Rattle.bk_device.specs.Laws.{nothing_then}
 use Rattle.bk_msdb.specs.Laws.{foreign_shown}
 use Rattle.bk_msdb.specs.Msdb.{msdb_file}
-use Rattle.bk_msdb.proofs.Steps.{gate_there, read_shows, spans_there}
+use Rattle.bk_msdb.proofs.Steps.{gate_there, spans_there}
 use Rattle.bk_msdb.proofs.listing.read_rows.Goals as goal
 
 pub read_tables-requires-clause-spans : goal.read_tables-requires-clause-spans

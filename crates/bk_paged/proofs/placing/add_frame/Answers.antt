@@ -1,4 +1,5 @@
 use Rattle.std.proofs.Common.{◌≡◌, ◌+◌, ◌++◌, ◌∷◌, [], List, ℕ, ap, sym, subst, ◌∙◌}
+use Rattle.std.proofs.lemmas.Result.{on_ok_weaker}
 use Rattle.std.specs.Prelude.{length, slice_index_or}
 use Rattle.bk_page.specs.Page.{sealed}
 use Rattle.bk_side.specs.Side.{added_of}
@@ -26,4 +27,4 @@ returns-clause-added g c t before =
     let bytes : c.seal_digest.new.page ≡ sealed page = c.seal_digest.ensures ∙ ap sealed c.copy_frame-bytes.ensures.page in
     let whole : length page ≡ 8192 = ap length (sym c.copy_frame-bytes.ensures.page) ∙ c.copy_frame-bytes.ensures.whole in
     let more = batch_more c.args.pool.now c.args.i c.in-Some.file c.in-Some.page entries c.if-not-is_dirty.ensures c.in-Some.ensures whole before in
-    subst (Batches c.args.pool.now (c.args.i + 1)) (sym (c.in_ok-add.ensures.added t ∙ ap (λ (p : List ℕ). entries ++ ((c.in-Some.file, c.in-Some.page), p) ∷ []) bytes)) more
+    on_ok_weaker c.add.result (λ added. subst (Batches c.args.pool.now (c.args.i + 1)) (sym (added ∙ ap (λ (p : List ℕ). entries ++ ((c.in-Some.file, c.in-Some.page), p) ∷ []) bytes)) more) (c.add.ensures.added t)

@@ -10,4 +10,4 @@ returns-in_default-clause-found g c t files names = found_none (λ (log : KeptLo
 pub returns-clause-found : goal.returns-clause-found
 returns-clause-found g c t files names =
     let Of : List ℕ → Type 0 = λ n. AreNoted n files in
-    c.in_ok-facts.ensures.found files (subst Of (sym c.note.ensures) (found_some (λ (log : KeptLog). AreNoted log.note files) c.in_ok-log.field-0 c.in-Some.log c.in-Some.is (c.in_ok-log.ensures.found t files names)))
+    c.facts_in.ensures.found files (subst Of (sym c.note.ensures) (found_some (λ (log : KeptLog). AreNoted log.note files) c.in_ok-log.field-0 c.in-Some.log c.in-Some.is (c.in_ok-log.ensures.found t files names)))

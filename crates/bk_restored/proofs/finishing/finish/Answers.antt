@@ -1,7 +1,7 @@
 use Rattle.std.proofs.Common.{◌≡◌, ◌++◌, ◌∙◌}
 use Rattle.bk_known.specs.Known.{known_bytes}
 use Rattle.bk_reopening.specs.StoreTold.{stood_of}
-use Rattle.bk_restored.proofs.Closed.{arrived-closed, suffices-bytes}
+use Rattle.bk_restored.proofs.Closed.{arrived-closed, both-ok, suffices-bytes}
 use Rattle.bk_restored.proofs.finishing.finish.Goals as goal
 
 pub returns-clause-closed : goal.returns-clause-closed
@@ -10,5 +10,5 @@ returns-clause-closed g c t durable given records told arrives enough =
     let known = c.args.known.now in
     let spelled : c.deref.result.now ≡ known_bytes known ++ c.args.note.now = c.deref.ensures.value ∙ c.in_ok-bytes.ensures.bytes in
     let suffices = suffices-bytes c.args.arriving c.args.checkpoint c.args.note.now c.deref.result.now given records known told spelled enough in
-    let holds = c.in_ok-finish.ensures.holds t given records (stood_of known told) arrives suffices in
-    arrived-closed c.args.arriving c.args.checkpoint c.args.note.now given records known told b enough (c.in_ok-finish.ensures.durable t durable) holds
+    both-ok c.finish.result (arrived-closed c.args.arriving c.args.checkpoint c.args.note.now given records known told b enough) (c.finish.ensures.durable t durable)
+    (c.finish.ensures.holds t given records (stood_of known told) arrives suffices)

@@ -20,23 +20,12 @@ returns-in_err-seal_seen-clause-crash g c = λ tells w is stands set guid named 
 pub returns-in_err-seal_seen-clause-touches : goal.returns-in_err-seal_seen-clause-touches
 returns-in_err-seal_seen-clause-touches g c = λ tells. effect_then (none-touch (c.copy_rest.ensures.touches tells)) (c.seal_seen.ensures.touches tells)
 
-pub returns-in_err-end_set-clause-crash : goal.returns-in_err-end_set-clause-crash
-returns-in_err-end_set-clause-crash g c = λ tells w is stands set guid named apart there front.
-    let copied = c.in_ok-copy_rest.ensures.stands tells w stands set guid named apart in
-    let holds = c.in_ok-copy_rest.ensures.holds tells w is stands set guid named apart there front in
-    let sealed = c.in_ok-seal_seen.ensures.stands tells w is copied holds in
-    effect_then (effect_then (uncut (c.copy_rest.ensures.crash tells w stands set guid named apart)) (c.seal_seen.ensures.crash tells w is copied holds)) (cut (c.end_set.ensures.crash tells (done w (set_sealed c.args.path.now c.args.header.now)) sealed))
-
-pub returns-in_err-end_set-clause-touches : goal.returns-in_err-end_set-clause-touches
-returns-in_err-end_set-clause-touches g c = λ tells.
-    effect_then (effect_then (none-touch (c.copy_rest.ensures.touches tells)) (c.seal_seen.ensures.touches tells)) (none-touch (c.end_set.ensures.touches tells))
-
 pub returns-clause-stands : goal.returns-clause-stands
 returns-clause-stands g c = λ tells w is stands set guid named apart there front.
     let copied = c.in_ok-copy_rest.ensures.stands tells w stands set guid named apart in
     let holds = c.in_ok-copy_rest.ensures.holds tells w is stands set guid named apart there front in
     let sealed = c.in_ok-seal_seen.ensures.stands tells w is copied holds in
-    c.in_ok-end_set.ensures.stands tells (done w (set_sealed c.args.path.now c.args.header.now)) sealed set guid (c.in_ok-copy_rest.ensures.name ∙ named) (sealed-apart w c.args.path.now c.args.header.now set apart)
+    c.end_set.ensures.stands tells (done w (set_sealed c.args.path.now c.args.header.now)) sealed set guid (c.in_ok-copy_rest.ensures.name ∙ named) (sealed-apart w c.args.path.now c.args.header.now set apart)
 
 pub returns-clause-crash : goal.returns-clause-crash
 returns-clause-crash g c = λ tells w is stands set guid named apart there front.

@@ -1,3 +1,4 @@
+use Rattle.std.proofs.lemmas.Result.{on_ok_weaker}
 use Rattle.std.proofs.Common.{◌≡◌, ◌∙◌, ◌≤◌, ◌+◌, sym, subst, List, ℕ, length}
 use Rattle.bk_device.specs.Calls.{contents, read_at}
 use Rattle.bk_device.specs.Effects.{Effect}
@@ -55,25 +56,16 @@ clear-requires-clause-stands g c t =
     copied_gate c.name.result.now (g.D.Device.disk c.args.dev.now) (g.D.Device.disk c.copy_entries.new.dev) (g.D.Device.disk c.sync_files.new.dev) c.args.gate.now c.name.ensures (c.requires.apart t) (g.met.D.Device.lawful t c.args.dev.now) (c.requires.stands t)
     (c.in_ok-copy_entries.ensures.same t) (c.in_ok-copy_entries.ensures.durable t) (c.in_ok-sync_files.ensures.same t) (c.sync_files.ensures.crash t)
 
-pub returns-in_err-clear-clause-crash : goal.returns-in_err-clear-clause-crash
-returns-in_err-clear-clause-crash g c t =
-    let a = g.D.Device.disk c.args.dev.now in
-    let b = g.D.Device.disk c.copy_entries.new.dev in
-    let s = g.D.Device.disk c.sync_files.new.dev in
-    finish_crash c.name.result.now c.args.gate.now.name a b s (g.D.Device.disk c.clear.new.dev) c.name.ensures (c.requires.apart t) (c.copy_entries.ensures.crash t) (c.sync_files.ensures.crash t)
-    (copied_at c.name.result.now c.args.gate.now.name a b s c.name.ensures (c.in_ok-copy_entries.ensures.same t) (c.in_ok-copy_entries.ensures.pages t) (c.in_ok-sync_files.ensures.same t) (c.in_ok-sync_files.ensures.durable t)) (c.clear.ensures.crash t)
-
 pub returns-clause-durable : goal.returns-clause-durable
-returns-clause-durable g c t = datas_durable (c.requires.apart t) (c.clear.ensures.crash t) (c.in_ok-sync_files.ensures.durable t)
+returns-clause-durable g c t = on_ok_weaker c.clear.result (λ none. datas_durable (c.requires.apart t) (c.clear.ensures.crash t) (c.in_ok-sync_files.ensures.durable t)) (c.clear.ensures.sealed t)
 
 pub returns-clause-same : goal.returns-clause-same
 returns-clause-same g c t =
     let a = g.D.Device.disk c.args.dev.now in
     let b = g.D.Device.disk c.copy_entries.new.dev in
     let s = g.D.Device.disk c.sync_files.new.dev in
-    clear_shows (c.requires.apart t)
-    (copied_at c.name.result.now c.args.gate.now.name a b s c.name.ensures (c.in_ok-copy_entries.ensures.same t) (c.in_ok-copy_entries.ensures.pages t) (c.in_ok-sync_files.ensures.same t) (c.in_ok-sync_files.ensures.durable t)) (c.clear.ensures.crash t)
-    (c.in_ok-clear.ensures.sealed t)
+    on_ok_weaker c.clear.result (clear_shows (c.requires.apart t)
+    (copied_at c.name.result.now c.args.gate.now.name a b s c.name.ensures (c.in_ok-copy_entries.ensures.same t) (c.in_ok-copy_entries.ensures.pages t) (c.in_ok-sync_files.ensures.same t) (c.in_ok-sync_files.ensures.durable t)) (c.clear.ensures.crash t)) (c.clear.ensures.sealed t)
 
 pub returns-clause-crash : goal.returns-clause-crash
 returns-clause-crash g c t =

@@ -1,15 +1,13 @@
-use Rattle.std.proofs.Common.{◌∙◌}
-use Rattle.std.proofs.lemmas.Result.{err_from_is_err_and}
-use Rattle.bk_stores.specs.declared.error.StoresError.TheVariants.{Broken}
-use Rattle.bk_stores.proofs.Noted.{broken-note, same-cause, spelled-read, spelled-refused}
+use Rattle.std.proofs.Common.{refl, ◌∙◌}
+use Rattle.bk_stores.proofs.Noted.{spelled-read, spelled-refused}
+use Rattle.bk_reading.specs.declared.unread.Unread.TheVariants.{Unspelled}
 use Rattle.bk_stores.proofs.noting.spelled_in.Goals as goal
 
-pub returns-in_err-known-clause-broken : goal.returns-in_err-known-clause-broken
-returns-in_err-known-clause-broken c = λ is known note its.
-    let p = err_from_is_err_and c.from_residual.result c.from_residual.ensures.1 in
-    spelled-refused c.args.bytes.now c.in_err-known.field-0.0 known note c.in_err-known.ensures (broken-note c.in_err-known.field-0.0 p.0 p.2 (same-cause p.0 Broken p.1 is)) its
+pub returns-in-Err-Unspelled-clause-broken : goal.returns-in-Err-Unspelled-clause-broken
+returns-in-Err-Unspelled-clause-broken c = λ broken known note its.
+    spelled-refused c.args.bytes.now Unspelled known note (rw c.in-Err-Unspelled.field-0-is at c.in-Err-Unspelled.ensures) refl its
 
-pub returns-clause-told : goal.returns-clause-told
-returns-clause-told c known note its =
-    let same = spelled-read c.args.bytes.now known c.in_ok-known.known note c.in_ok-known.rest.now its c.in_ok-known.ensures in
-    (same.0, c.in_ok-note.ensures.items_if_clones_equal (λ x y e. e) ∙ same.1)
+pub returns-in_ok-to_vec-in-Ok-clause-told : goal.returns-in_ok-to_vec-in-Ok-clause-told
+returns-in_ok-to_vec-in-Ok-clause-told c known note its =
+    let same = spelled-read c.args.bytes.now known c.in-Ok.known note c.in-Ok.rest.now its c.in-Ok.ensures in
+    (same.0, c.in_ok-to_vec-in-Ok.ensures.items_if_clones_equal (λ x y e. e) ∙ same.1)

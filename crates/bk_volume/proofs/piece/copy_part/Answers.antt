@@ -1,3 +1,4 @@
+use Rattle.std.proofs.lemmas.Result.{on_ok_weaker}
 use Rattle.std.proofs.Common.{◌≡◌, ◌*◌, ◌-◌, ◌+◌, ◌%◌, ◌∙◌, length, take, refl, ap, arith, rules}
 use Rattle.std.proofs.lemmas.List.{length-take}
 use Rattle.bk_gate.specs.Gate.{Kept}
@@ -30,6 +31,9 @@ pub returns-clause-copied : goal.returns-clause-copied
 returns-clause-copied g c t =
     let rest : length (take (c.args.len % 1048576) c.pieces.buffer) ≡ c.args.len % 1048576 = simp length-take (omega (arith, c.pieces.invariant.size)) in
     let pieces : c.args.len ≡ 1048576 * c.pieces.i + c.args.len % 1048576 = omega (arith, c.pieces-test.false, c.pieces.auto.i-end) in
-    (copying_more c.args.from.now c.args.at (1048576 * c.pieces.i) (length (take (c.args.len % 1048576) c.pieces.buffer)) (c.args.at + (c.args.len - c.args.len % 1048576)) c.args.len c.args.gate.now c.pieces.gate c.copy_piece-2.new.gate
-    c.pieces.hasher c.copy_piece-2.new.hasher (ap (λ (k : Kept). k.name) c.pieces.invariant.same) (omega (arith, pieces)) (omega (arith, pieces, rest)) (c.pieces.invariant.copied t) (c.in_ok-copy_piece-2.ensures.copied t)
-    (c.copy_piece-2.ensures.crash t)).copies
+    on_ok_weaker c.copy_piece-2.result (λ copied. (copying_more c.args.from.now c.args.at (1048576 * c.pieces.i) (length (take (c.args.len % 1048576) c.pieces.buffer)) (c.args.at + (c.args.len - c.args.len % 1048576)) c.args.len c.args.gate.now c.pieces.gate c.copy_piece-2.new.gate
+    c.pieces.hasher c.copy_piece-2.new.hasher (ap (λ (k : Kept). k.name) c.pieces.invariant.same) (omega (arith, pieces)) (omega (arith, pieces, rest)) (c.pieces.invariant.copied t) copied
+    (c.copy_piece-2.ensures.crash t)).copies) (c.copy_piece-2.ensures.copied t)
+
+pub returns-clause-same : goal.returns-clause-same
+returns-clause-same g c = on_ok_weaker c.copy_piece-2.result (gate_same c.args.gate.now c.pieces.gate c.copy_piece-2.new.gate c.pieces.invariant.same) c.copy_piece-2.ensures.same

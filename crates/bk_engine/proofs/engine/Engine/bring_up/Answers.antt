@@ -2,11 +2,11 @@ use Rattle.std.proofs.Common.{rules, ◌≡◌, ◌≤◌, ◌+◌, ◌∙◌, �
 use Rattle.std.specs.List.{position}
 use Rattle.std.specs.Prelude.{IsErrOf}
 use Rattle.bk_device.specs.Compose.{effect_then, effect_weaken}
+use Rattle.bk_device.specs.declared.trouble.Trouble.TheVariants.{Broken}
 use Rattle.bk_hosted.specs.Hosted.{names}
 use Rattle.bk_hosting.specs.AskLaws.{described}
 use Rattle.bk_master.specs.declared.record.Own.{Own}
 use Rattle.bk_stores.specs.Stores.{IsOurs as IsOfStores}
-use Rattle.bk_stores.specs.declared.error.StoresError.TheVariants.{Broken}
 use Rattle.bk_volume.specs.Stored.{Stored}
 use Rattle.bk_world.specs.declared.database.TableSpec.{TableSpec}
 use Rattle.bk_world.specs.declared.header.Header.{Header}

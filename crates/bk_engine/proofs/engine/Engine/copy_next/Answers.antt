@@ -25,7 +25,7 @@ returns-clause-stands g c = λ tells w is apart.
     let rests : StandsFor (g.D.Device.disk c.at_rest.new.dev) c.args.self.now w = subst (λ d. StandsFor (g.D.Device.disk d) c.args.self.now w) (sym c.at_rest.ensures.same) is in
     let listed : StandsFor (g.D.Device.disk c.extents.new.dev) c.args.self.now w = subst (λ d. StandsFor (g.D.Device.disk d) c.args.self.now w) (sym c.extents.ensures.same) rests in
     let taken : StandsFor (g.D.Device.disk c.take_up.new.dev) c.args.self.now w = c.take_up.ensures.stands tells w c.requires.ready listed in
-    c.copy_on.ensures.stands tells w taken c.args.set c.take_up.ensures.guid (ap (λ (s : Staging). s.name) c.in_ok-staged.ensures.again) apart
+    c.copy_extents.ensures.stands tells w taken c.args.set c.take_up.ensures.guid (ap (λ (s : Staging). s.name) c.in_ok-staged.ensures.again) apart
 
 pub returns-clause-copied : goal.returns-clause-copied
 returns-clause-copied g c = λ tells w job is of online late own count.
@@ -48,9 +48,9 @@ returns-clause-copied g c = λ tells w job is of online late own count.
     subst (λ (s : Staging). HoldsParts d s of.holds.extents []) (sym again) (front-parts a d job.set of.count (length all - length job.left) job.left all of.holds.extents (of.holds.order ∙ sym are) refl same of.holds.parts) in
     let ids : slice_range c.deref.result.now (c.len-2.result - c.args.left) (c.len-3.result - c.args.rest) ≡ slice_range all (length all - c.args.left) (length all - c.args.rest) = λ i. slice_range (value i) (two i - c.args.left) (three i - c.args.rest) in
     let few : c.args.rest ≤ c.args.left = omega arith in
-    on-all c.copy_on.result (λ value ok.
-    copied-next w c.args.name.now job a (g.D.Device.disk c.copy_on.new.dev) of all _ c.args.left c.args.rest _ _ c.in_ok-staged.staged c.copy_on.new.staged are few count late again (of-ok c.copy_on.result value ok c.copy_on.ensures.counted) ids
-    (of-ok c.copy_on.result value ok (c.copy_on.ensures.added tells w of.db taken here of.holds.extents parts)))
+    on-all c.copy_extents.result (λ value ok.
+    copied-next w c.args.name.now job a (g.D.Device.disk c.copy_extents.new.dev) of all _ c.args.left c.args.rest _ _ c.in_ok-staged.staged c.copy_extents.new.staged are few count late again (of-ok c.copy_extents.result value ok c.copy_extents.ensures.counted) ids
+    (of-ok c.copy_extents.result value ok (c.copy_extents.ensures.added tells w of.db taken here of.holds.extents parts)))
 
 pub returns-in_err-all-clause-crash : goal.returns-in_err-all-clause-crash
 returns-in_err-all-clause-crash g c = λ tells w is. subst (λ d. Effect IsOurs (Covers w) (g.D.Device.disk c.args.dev.now) (g.D.Device.disk d)) (sym c.extents.ensures.same) (c.at_rest.ensures.crash tells w is)
@@ -63,8 +63,8 @@ returns-in_err-staged-clause-crash g c = λ tells w is.
     let listed : StandsFor (g.D.Device.disk c.extents.new.dev) c.args.self.now w = subst (λ d. StandsFor (g.D.Device.disk d) c.args.self.now w) (sym (c.extents.ensures.same ∙ c.at_rest.ensures.same)) is in
     effect_then (subst (λ d. Effect IsOurs (Covers w) (g.D.Device.disk c.args.dev.now) (g.D.Device.disk d)) (sym c.extents.ensures.same) (c.at_rest.ensures.crash tells w is)) (c.take_up.ensures.crash tells w c.requires.ready listed)
 
-pub copy_on-requires-clause-there : goal.copy_on-requires-clause-there
-copy_on-requires-clause-there g c = λ s filled.
+pub copy_extents-requires-clause-there : goal.copy_extents-requires-clause-there
+copy_extents-requires-clause-there g c = λ s filled.
     All-take (HasExtent s.paged.facts.files) ((c.len-3.result - c.args.rest) - (c.len-2.result - c.args.left)) (drop (c.len-2.result - c.args.left) c.deref.result.now)
     (All-drop (HasExtent s.paged.facts.files) (c.len-2.result - c.args.left) c.deref.result.now (subst (All (HasExtent s.paged.facts.files)) (sym c.deref.ensures.value) (c.in_ok-all.ensures.there s filled)))
 
@@ -72,8 +72,8 @@ pub returns-clause-crash : goal.returns-clause-crash
 returns-clause-crash g c = λ tells w is.
     let listed : StandsFor (g.D.Device.disk c.extents.new.dev) c.args.self.now w = subst (λ d. StandsFor (g.D.Device.disk d) c.args.self.now w) (sym (c.extents.ensures.same ∙ c.at_rest.ensures.same)) is in
     effect_then (effect_then (subst (λ d. Effect IsOurs (Covers w) (g.D.Device.disk c.args.dev.now) (g.D.Device.disk d)) (sym c.extents.ensures.same) (c.at_rest.ensures.crash tells w is)) (c.take_up.ensures.crash tells w c.requires.ready listed))
-    (c.copy_on.ensures.crash tells w (c.take_up.ensures.stands tells w c.requires.ready listed))
+    (c.copy_extents.ensures.crash tells w (c.take_up.ensures.stands tells w c.requires.ready listed))
 
 pub returns-clause-touches : goal.returns-clause-touches
 returns-clause-touches g c = λ tells.
-    effect_then (rest-touch g.D.Device.disk c.args.dev.now c.extents.new.dev (c.extents.ensures.same ∙ c.at_rest.ensures.same)) (effect_then (c.take_up.ensures.touches tells) (c.copy_on.ensures.touches tells))
+    effect_then (rest-touch g.D.Device.disk c.args.dev.now c.extents.new.dev (c.extents.ensures.same ∙ c.at_rest.ensures.same)) (effect_then (c.take_up.ensures.touches tells) (c.copy_extents.ensures.touches tells))

@@ -7,7 +7,7 @@ use Rattle.bk_master.specs.declared.record.Own.{Own}
 use Rattle.bk_master.specs.declared.record.Record.{Record}
 use Rattle.bk_stores.specs.Quiet.{AreQuiet}
 use Rattle.bk_stores.specs.QuietLaws.{quiet-moved, quiet-record}
-use Rattle.bk_stores.specs.declared.error.StoresError.TheVariants.{Broken}
+use Rattle.bk_stores.specs.declared.error.LoadError.TheVariants.{Broken}
 use Rattle.bk_engine.specs.LoadLaws.{load-crash, load-opens, run-begins}
 use Rattle.bk_engine.specs.Loading.{Opened}
 use Rattle.bk_engine.specs.Stands.{Kept}

@@ -1,3 +1,4 @@
+use Rattle.std.proofs.lemmas.Result.{IfOk-weaker}
 use Rattle.std.proofs.Common.{◌+◌, ◌≤◌, ℕ, List, length, Some, sym, ap, subst, ◌∙◌}
 use Rattle.bk_device.specs.Calls.{contents, read_at}
 use Rattle.bk_gate.specs.Laws.{span_inside, blob_there}
@@ -11,4 +12,4 @@ read_span-requires g c t =
 pub returns-clause-bytes : goal.returns-clause-bytes
 returns-clause-bytes g c t =
     let At : List ℕ → List ℕ = λ n. read_at (contents ((g.D.Device.disk c.args.dev.now).files n)) c.span-at.result.0 c.span-at.result.1 in
-    blob_there (contents ((g.D.Device.disk c.args.dev.now).files c.args.self.now.name)) c.args.self.now.spans c.args.i c.span-at.result (c.requires.gate_file t) (c.requires.spans t) c.span-at.ensures.span ∙ ap (λ (b : List ℕ). Some b) (ap At (sym c.name.ensures) ∙ sym (c.in_ok-bytes.ensures.bytes t))
+    IfOk-weaker c.read_span.result _ _ (λ b read. blob_there (contents ((g.D.Device.disk c.args.dev.now).files c.args.self.now.name)) c.args.self.now.spans c.args.i c.span-at.result (c.requires.gate_file t) (c.requires.spans t) c.span-at.ensures.span ∙ ap (λ (b : List ℕ). Some b) (ap At (sym c.name.ensures) ∙ sym read)) (c.read_span.ensures.bytes t)

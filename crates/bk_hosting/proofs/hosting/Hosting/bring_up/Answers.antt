@@ -10,7 +10,7 @@ use Rattle.bk_stores.specs.ListLaws.{got-set}
 use Rattle.bk_stores.specs.Standing.{AreStanding, AreUnused}
 use Rattle.bk_stores.specs.Stores.{Fixed, Kept as KeptStores}
 use Rattle.bk_stores.specs.TouchLaws.{none-touched}
-use Rattle.bk_stores.specs.declared.error.StoresError.TheVariants.{Broken}
+use Rattle.bk_device.specs.declared.trouble.Trouble.TheVariants.{Broken}
 use Rattle.bk_hosting.specs.Bringing.{ComesUp}
 use Rattle.bk_hosting.specs.Hosting.{IsHosting, IsReady, IsSealedAt, Kept, LeavesEither, own_of}
 use Rattle.bk_hosting.proofs.Brought.{by-parts, shares-kept, state_at, up-crash, up-hosting, up-ready}

@@ -8,6 +8,7 @@ use Rattle.bk_world.specs.declared.database.FileSpec.{FileSpec}
 use Rattle.bk_hosting.specs.declared.hosting.State.{State}
 use Rattle.bk_hosting.specs.Hosting.{IsHosting, Kept, LeavesEither}
 use Rattle.bk_hosting.specs.Making.{newly}
+use Rattle.bk_hosting.proofs.Answered.{answered, so}
 use Rattle.bk_hosting.proofs.Checked.{as-viewed, rest-hosted}
 use Rattle.bk_hosting.proofs.MadeHosted.{made-crash, made-hosting, shares-none}
 use Rattle.bk_hosting.proofs.hosting.Hosting.create.Goals as goal
@@ -24,24 +25,19 @@ returns-in_err-state-clause-crash g c = λ tells hosted is none. effect_weaken (
 pub returns-in_err-push-clause-crash : goal.returns-in_err-push-clause-crash
 returns-in_err-push-clause-crash g c = λ tells hosted is none. effect_weaken (λ image before. inl before) (rest-hosted (g.D.Device.disk c.args.dev.now) c.args.self.now hosted is)
 
-pub returns-in_err-create-clause-crash : goal.returns-in_err-create-clause-crash
-returns-in_err-create-clause-crash g c = λ tells hosted is none.
-    let a = g.D.Device.disk c.args.dev.now in
-    let x : Kept = record { stores = c.self.inside.stores; states = c.self.inside.states.items } in
-    let is' : IsHosting a x hosted = subst (λ (k : Kept). IsHosting a k hosted) (sym c.self.view_is) is in
-    as-viewed (λ own. LeavesEither own hosted (hosted ++ newly c.args.spec c.args.time c.args.branch ∷ [])) x c.args.self.now c.self.view_is (made-crash a (g.D.Device.disk c.create.new.dev) x hosted c.args.spec c.args.time c.args.branch is' (c.create.ensures.crash tells is'.tolds is'.stores (shares-none a x hosted c.args.spec is' none)))
-
 pub returns-clause-stands : goal.returns-clause-stands
 returns-clause-stands g c = λ tells hosted is none.
+    answered c.create.result
+    (λ _ got.
     let a = g.D.Device.disk c.args.dev.now in
     let x : Kept = record { stores = c.self.inside.stores; states = c.self.inside.states.items } in
     let is' : IsHosting a x hosted = subst (λ (k : Kept). IsHosting a k hosted) (sym c.self.view_is) is in
-    let opens = c.in_ok-create.ensures.opens in
+    let opens = so c.create.result got c.create.ensures.opens in
     let state : c.in_ok-state.state ≡ record { points = first_points c.args.spec.storage.files; job = None; transactions = []; known = None } = search rules in
     let pushed : c.push.new.self.items ≡ c.self.inside.states.items ++ c.in_ok-state.state ∷ [] = search rules in
-    made-hosting a (g.D.Device.disk c.create.new.dev) x (record { stores = c.create.new.self; states = c.push.new.self.items }) hosted c.args.spec c.args.time c.args.branch opens.0 is' opens.1 opens.2 c.in_ok-create.ensures.fixed
-    (c.in_ok-create.ensures.stands tells is'.tolds is'.stores (shares-none a x hosted c.args.spec is' none))
-    (pushed ∙ ap (λ (s : State). c.self.inside.states.items ++ s ∷ []) state)
+    made-hosting a (g.D.Device.disk c.create.new.dev) x (record { stores = c.create.new.self; states = c.push.new.self.items }) hosted c.args.spec c.args.time c.args.branch opens.0 is' opens.1 opens.2 (so c.create.result got c.create.ensures.fixed)
+    (so c.create.result got (c.create.ensures.stands tells is'.tolds is'.stores (shares-none a x hosted c.args.spec is' none)))
+    (pushed ∙ ap (λ (s : State). c.self.inside.states.items ++ s ∷ []) state))
 
 pub returns-clause-crash : goal.returns-clause-crash
 returns-clause-crash g c = λ tells hosted is none.

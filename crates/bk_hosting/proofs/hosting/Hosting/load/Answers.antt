@@ -4,9 +4,10 @@ use Rattle.bk_device.specs.Compose.{effect_then}
 use Rattle.bk_device.specs.Disk.{Disk}
 use Rattle.bk_device.specs.Effects.{Effect}
 use Rattle.bk_device.specs.Laws.{nothing_then}
+use Rattle.bk_device.specs.declared.trouble.Trouble.TheVariants as trouble
 use Rattle.bk_hosted.specs.Hosted.{Hosted}
 use Rattle.bk_master.specs.declared.record.Own.{Own}
-use Rattle.bk_stores.specs.declared.error.StoresError.TheVariants.{Broken}
+use Rattle.bk_stores.specs.declared.error.LoadError.TheVariants as loading
 use Rattle.bk_stores.specs.QuietLaws.{quiet-moved}
 use Rattle.bk_stores.specs.Stores.{Fixed, IsOurs, fixed_of}
 use Rattle.bk_hosting.specs.declared.hosting.State.{State}
@@ -27,7 +28,7 @@ returns-in_err-stores-clause-crash g c = λ tells settled own hosted holds.
 pub returns-in_err-stores-clause-broken : goal.returns-in_err-stores-clause-broken
 returns-in_err-stores-clause-broken g c = λ tells broken settled own hosted holds.
     let its : Held c.args.number own (g.D.Device.disk c.args.dev.now).files hosted = held c.args.number own (g.D.Device.disk c.args.dev.now).files hosted holds in
-    let err : IsErrOf c.load.result Broken = search rules in
+    let err : IsErrOf c.load.result loading.Broken = search rules in
     c.load.ensures.broken tells err settled its.fixed its.tolds its.holds
 
 pub open_all-requires-clause-partly : goal.open_all-requires-clause-partly
@@ -53,7 +54,7 @@ returns-in_err-open_all-clause-broken g c = λ tells broken settled own hosted h
     let same : fixed_of c.in_ok-stores.stores.master.record ≡ its.fixed = c.in_ok-stores.ensures.fixed tells its.fixed its.tolds its.holds in
     let opening : IsOpening b (record { stores = c.in_ok-stores.stores; states = c.new.result.items }) hosted = subst (λ (ss : List State). IsOpening b (record { stores = c.in_ok-stores.stores; states = ss }) hosted) (sym c.new.ensures.items)
     (loaded-opening b c.in_ok-stores.stores its.tolds hosted (c.in_ok-stores.ensures.stands tells settled its.fixed its.tolds its.holds) (ap (λ (f : Fixed). f.stored) same ∙ its.stored) its.tells its.some) in
-    let err : IsErrOf c.open_all.result Broken = search rules in
+    let err : IsErrOf c.open_all.result trouble.Broken = search rules in
     c.open_all.ensures.broken tells err hosted opening
 
 pub returns-clause-stands : goal.returns-clause-stands

@@ -10,7 +10,7 @@ use Rattle.bk_stores.specs.QuietLaws.{quiet-moved}
 use Rattle.bk_stores.specs.Stores.{IsOurs}
 use Rattle.bk_hosting.specs.Loading.{LeavesUndoing}
 use Rattle.bk_stores.specs.TouchLaws.{none-touched}
-use Rattle.bk_stores.specs.declared.error.StoresError.TheVariants.{Broken}
+use Rattle.bk_device.specs.declared.trouble.Trouble.TheVariants.{Broken}
 use Rattle.bk_hosting.proofs.Loaded.{all-hosting, all-ready}
 use Rattle.bk_hosting.proofs.Opening.{rest-undoing}
 use Rattle.bk_hosting.proofs.hosting.Hosting.open_all.Goals as goal

@@ -8,7 +8,7 @@ use Rattle.bk_hosted.specs.Hosted.{folded, is_up}
 use Rattle.bk_stores.specs.Reopening.{settled as settled_told}
 use Rattle.bk_machine.specs.statements.Restore.{is_online}
 use Rattle.bk_stores.specs.TouchLaws.{nothing-touched}
-use Rattle.bk_stores.specs.declared.error.StoresError.TheVariants.{Broken}
+use Rattle.bk_device.specs.declared.trouble.Trouble.TheVariants.{Broken}
 use Rattle.bk_stores.specs.ListLaws.{got-inside, got-set}
 use Rattle.bk_stores.specs.Stores.{AreStores, IsOurs, LeavesStores, fixed_of, sealed_at, Kept as KeptStores}
 use Rattle.bk_hosting.specs.declared.hosting.State.{State}

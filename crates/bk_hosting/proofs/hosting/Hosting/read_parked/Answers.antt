@@ -4,7 +4,7 @@ use Rattle.bk_device.specs.Compose.{effect_then_nothing}
 use Rattle.bk_hosted.specs.Fronts.{settling}
 use Rattle.bk_hosted.specs.Hosted.{is_up}
 use Rattle.bk_stores.specs.TouchLaws.{nothing-touched}
-use Rattle.bk_stores.specs.declared.error.StoresError.TheVariants.{Broken}
+use Rattle.bk_device.specs.declared.trouble.Trouble.TheVariants.{Broken}
 use Rattle.bk_stores.specs.ListLaws.{set-same}
 use Rattle.bk_stores.specs.Standing.{AreStanding}
 use Rattle.bk_stores.specs.Stores.{AreStores}

@@ -24,20 +24,6 @@ returns-in_err-write_all-clause-crash g c t stood is =
     let stored = ap (λ (k : Kept). k.log.stored) more in
     crash_as c.args.self.now.log.db _ (sealed_count c.args.self.now) _ (with_one stood r) _ _ db (omega (arith, stored)) (c.write_all.ensures.crash t (with_one stood r) first)
 
-pub returns-in_err-note_checkpoint-clause-crash : goal.returns-in_err-note_checkpoint-clause-crash
-returns-in_err-note_checkpoint-clause-crash g c t stood is =
-    let r = checkpoint_record c.args.self.now c.args.now in
-    let small : c.args.now < 2 ^ 64 = search rules in
-    let more = c.in_ok-append_checkpoint.ensures.more in
-    let first = checkpoint_said c.undoing_law.ensures.no_longer c.args.self.now c.append_checkpoint.new.self stood (g.D.Device.disk c.args.dev.now) c.args.now is c.requires.room small more in
-    let db = ap (λ (k : Kept). k.log.db) more in
-    let stored = ap (λ (k : Kept). k.log.stored) more in
-    let ends = ap (λ (k : Kept). k.log.end) more in
-    let second = c.in_ok-write_all.ensures.stands t (with_one stood r) first in
-    let all = c.in_ok-write_all.ensures.ends in
-    effect_then (crash_as c.args.self.now.log.db _ (sealed_count c.args.self.now) _ (with_one stood r) _ _ db (omega (arith, stored)) (c.write_all.ensures.crash t (with_one stood r) first))
-    (crash_as c.args.self.now.log.db _ (sealed_count c.args.self.now) _ (with_one stood r) _ _ (all.0 ∙ db) (omega (arith, ends, all.2, is.sealed)) (c.note_checkpoint.ensures.crash t (with_one stood r) second))
-
 pub returns-clause-crash : goal.returns-clause-crash
 returns-clause-crash g c t stood is =
     let r = checkpoint_record c.args.self.now c.args.now in
@@ -57,7 +43,7 @@ returns-clause-stands g c t stood is =
     let r = checkpoint_record c.args.self.now c.args.now in
     let small : c.args.now < 2 ^ 64 = search rules in
     let first = checkpoint_said c.undoing_law.ensures.no_longer c.args.self.now c.append_checkpoint.new.self stood (g.D.Device.disk c.args.dev.now) c.args.now is c.requires.room small c.in_ok-append_checkpoint.ensures.more in
-    c.in_ok-note_checkpoint.ensures.stands t (with_one stood r) (c.in_ok-write_all.ensures.stands t (with_one stood r) first)
+    c.note_checkpoint.ensures.stands t (with_one stood r) (c.in_ok-write_all.ensures.stands t (with_one stood r) first)
 
 pub returns-in_err-append_checkpoint-clause-touches : goal.returns-in_err-append_checkpoint-clause-touches
 returns-in_err-append_checkpoint-clause-touches g c t =
@@ -66,13 +52,6 @@ returns-in_err-append_checkpoint-clause-touches g c t =
 pub returns-in_err-write_all-clause-touches : goal.returns-in_err-write_all-clause-touches
 returns-in_err-write_all-clause-touches g c t =
     touches-as c.args.self.now c.append_checkpoint.new.self (ap (λ (k : Kept). k.log.db) c.in_ok-append_checkpoint.ensures.more) (ap (λ (k : Kept). k.facts.files) c.in_ok-append_checkpoint.ensures.more) (c.write_all.ensures.touches t)
-
-pub returns-in_err-note_checkpoint-clause-touches : goal.returns-in_err-note_checkpoint-clause-touches
-returns-in_err-note_checkpoint-clause-touches g c t =
-    let more = c.in_ok-append_checkpoint.ensures.more in
-    let all = c.in_ok-write_all.ensures in
-    effect_then (touches-as c.args.self.now c.append_checkpoint.new.self (ap (λ (k : Kept). k.log.db) more) (ap (λ (k : Kept). k.facts.files) more) (c.write_all.ensures.touches t))
-    (touches-as c.args.self.now c.write_all.new.self (all.ends.0 ∙ ap (λ (k : Kept). k.log.db) more) (ap (λ (k : Kept). k.facts.files) all.same ∙ ap (λ (k : Kept). k.facts.files) more) (c.note_checkpoint.ensures.touches t))
 
 pub returns-clause-touches : goal.returns-clause-touches
 returns-clause-touches g c t =

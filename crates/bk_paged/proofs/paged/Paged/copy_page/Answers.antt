@@ -7,7 +7,8 @@ use Rattle.bk_paged.specs.Leaving.{paged_none}
 use Rattle.bk_paged.specs.Names.{IsThere}
 use Rattle.bk_paged.specs.Paged.{IsPaged, Kept}
 use Rattle.bk_paged.specs.StandLaws.{standing-kept}
-use Rattle.bk_paged.proofs.Copied.{anyway, changed_stored, clean_stored, given}
+use Rattle.bk_paged.proofs.Copied.{changed_stored, clean_stored}
+use Rattle.bk_paged.proofs.Ends.{anyway, given}
 use Rattle.bk_paged.proofs.Fetching.{nothing_crash, paged_kept, page_sound}
 use Rattle.bk_paged.proofs.paged.Paged.copy_page.Goals as goal
 

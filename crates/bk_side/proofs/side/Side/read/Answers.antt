@@ -1,29 +1,33 @@
-use Rattle.std.proofs.Common.{◌≡◌, ℕ, List, sym, subst, ap, ◌∙◌}
+use Rattle.std.proofs.lemmas.Result.{IfOk-weaker}
+use Rattle.std.proofs.Common.{◌≡◌, ℕ, Bool, true, false, List, sym, subst, ap, ◌∙◌}
 use Rattle.bk_side.specs.Pages.{page_of, IsSound}
 use Rattle.bk_side.specs.Side.{Kept, pages_of}
 use Rattle.bk_side.proofs.Sides.{read_shown}
 use Rattle.bk_side.proofs.side.Side.read.Goals as goal
 
 pub returns-clause-sound : goal.returns-clause-sound
-returns-clause-sound g c t is =
+returns-clause-sound g c t =
     let a = g.D.Device.disk c.args.dev.now in
     let p : ℕ × ℕ = (c.args.file, c.args.number) in
     let same : page_of c.deref.result.now a.files p ≡ pages_of c.args.self.now a.files p =
     ap (λ (names : List (List ℕ)). page_of names a.files p) (c.deref.ensures.value ∙ ap (λ (k : Kept). k.names) c.self.view_is) ∙ read_shown a c.args.self.now p (c.requires t) in
-    subst IsSound same (c.in_ok-is_sound.ensures.sound t is)
+    IfOk-weaker c.read_page.result (λ (is : Bool). is ≡ true → IsSound (page_of c.deref.result.now a.files p)) (λ (is : Bool). is ≡ true → IsSound (pages_of c.args.self.now a.files p))
+    (λ is sound so. subst IsSound same (sound so)) (c.read_page.ensures.sound t)
 
 pub returns-clause-broken : goal.returns-clause-broken
-returns-clause-broken g c t is sound =
+returns-clause-broken g c t =
     let a = g.D.Device.disk c.args.dev.now in
     let p : ℕ × ℕ = (c.args.file, c.args.number) in
     let same : page_of c.deref.result.now a.files p ≡ pages_of c.args.self.now a.files p =
     ap (λ (names : List (List ℕ)). page_of names a.files p) (c.deref.ensures.value ∙ ap (λ (k : Kept). k.names) c.self.view_is) ∙ read_shown a c.args.self.now p (c.requires t) in
-    c.in_ok-is_sound.ensures.broken t is (subst IsSound (sym same) sound)
+    IfOk-weaker c.read_page.result (λ (is : Bool). is ≡ false → IsSound (page_of c.deref.result.now a.files p) → ⊥) (λ (is : Bool). is ≡ false → IsSound (pages_of c.args.self.now a.files p) → ⊥)
+    (λ is not so sound. not so (subst IsSound (sym same) sound)) (c.read_page.ensures.broken t)
 
 pub returns-clause-page : goal.returns-clause-page
-returns-clause-page g c t is =
+returns-clause-page g c t =
     let a = g.D.Device.disk c.args.dev.now in
     let p : ℕ × ℕ = (c.args.file, c.args.number) in
     let same : page_of c.deref.result.now a.files p ≡ pages_of c.args.self.now a.files p =
     ap (λ (names : List (List ℕ)). page_of names a.files p) (c.deref.ensures.value ∙ ap (λ (k : Kept). k.names) c.self.view_is) ∙ read_shown a c.args.self.now p (c.requires t) in
-    c.in_ok-is_sound.ensures.page t is ∙ same
+    IfOk-weaker c.read_page.result (λ (is : Bool). is ≡ true → c.read_page.new.page ≡ page_of c.deref.result.now a.files p) (λ (is : Bool). is ≡ true → c.read_page.new.page ≡ pages_of c.args.self.now a.files p)
+    (λ is page so. page so ∙ same) (c.read_page.ensures.page t)

@@ -1,18 +1,11 @@
 use Rattle.bk_store.specs.Told.{said}
 use Rattle.bk_store.specs.LiftLaws.{crash-more, crash-then, sealed-few}
-use Rattle.bk_store.specs.TouchLaws.{touches-then}
 use Rattle.bk_store.proofs.store.Store.say_durably.Goals as goal
 
 pub returns-in_err-say-clause-crash : goal.returns-in_err-say-clause-crash
 returns-in_err-say-clause-crash g c t told r is next spells =
     let a = g.D.Device.disk c.args.dev.now in
     crash-more c.args.self.now told r a (g.D.Device.disk c.say.new.dev) (sealed-few c.args.self.now told a is) (c.say.ensures.crash t told is)
-
-pub returns-in_err-flush-clause-crash : goal.returns-in_err-flush-clause-crash
-returns-in_err-flush-clause-crash g c t told r is next spells =
-    let first = c.in_ok-say.ensures.stands t told r is next spells in
-    crash-then c.args.self.now c.say.new.self told r (g.D.Device.disk c.args.dev.now) (g.D.Device.disk c.say.new.dev) (g.D.Device.disk c.flush.new.dev) is c.in_ok-say.ensures.ends.0 (c.in_ok-say.ensures.later t told is)
-    (c.say.ensures.crash t told is) (c.flush.ensures.crash t (said told r) first)
 
 pub returns-clause-crash : goal.returns-clause-crash
 returns-clause-crash g c t told r is next spells =
@@ -21,12 +14,4 @@ returns-clause-crash g c t told r is next spells =
     (c.say.ensures.crash t told is) (c.flush.ensures.crash t (said told r) first)
 
 pub returns-clause-stands : goal.returns-clause-stands
-returns-clause-stands g c t told r is next spells = c.in_ok-flush.ensures.stands t (said told r) (c.in_ok-say.ensures.stands t told r is next spells)
-
-pub returns-in_err-flush-clause-touches : goal.returns-in_err-flush-clause-touches
-returns-in_err-flush-clause-touches g c t =
-    touches-then c.args.self.now.paged c.say.new.self.paged c.in_ok-say.ensures.ends.0 c.in_ok-say.ensures.files (c.say.ensures.touches t) (c.flush.ensures.touches t)
-
-pub returns-clause-touches : goal.returns-clause-touches
-returns-clause-touches g c t =
-    touches-then c.args.self.now.paged c.say.new.self.paged c.in_ok-say.ensures.ends.0 c.in_ok-say.ensures.files (c.say.ensures.touches t) (c.flush.ensures.touches t)
+returns-clause-stands g c t told r is next spells = c.flush.ensures.stands t (said told r) (c.in_ok-say.ensures.stands t told r is next spells)

@@ -9,7 +9,7 @@ use Rattle.bk_stores.specs.Bringing.{IsNamed}
 use Rattle.bk_stores.specs.Making.{MaySwap, set_stored}
 use Rattle.bk_stores.specs.Records.{stored_entry}
 use Rattle.bk_stores.specs.Stores.{AreStores, Kept, fixed_of}
-use Rattle.bk_stores.specs.declared.error.StoresError.TheVariants.{Broken}
+use Rattle.bk_device.specs.declared.trouble.Trouble.TheVariants.{Broken}
 use Rattle.bk_stores.proofs.Brought.{before-swap, brought-crash, brought-joins, brought-may-swap, named-count, named-keeps}
 use Rattle.bk_stores.proofs.Created.{begun-below, on-ok}
 use Rattle.bk_stores.proofs.Noted.{told-at}

@@ -39,7 +39,7 @@ returns-clause-stands g c t tolds told is may =
     let e : Entry = c.store_at-number.ensures.0 in
     let there : slice_get s.master.record.databases c.args.at ≡ Some e = search rules in
     let next_is : c.in_ok-next.next ≡ left_out s.master.record c.args.at e.store c.args.paths.now = search rules in
-    let slots_are : c.remove.new.self.items ≡ remove s.slots c.args.at = search rules in
+    let slots_are : c.drop_slot.new.slots.items ≡ remove s.slots c.args.at = search rules in
     subst (λ (slots : List (Option KeptStore)). AreStores b (record { master = c.put.new.self; slots = slots }) (remove tolds c.args.at)) (sym slots_are)
     (left-stands s tolds c.args.at told e c.args.paths.now c.put.new.self c.requires.small (c.in_ok-put.ensures.put ∙ next_is) there here its (c.in_ok-put.ensures.stands t) (c.put.ensures.crash t))
 
@@ -66,7 +66,7 @@ returns-clause-standing g c t =
     let e : Entry = c.store_at-number.ensures.0 in
     let there : slice_get s.master.record.databases c.args.at ≡ Some e = search rules in
     let next_is : c.in_ok-next.next ≡ left_out s.master.record c.args.at e.store c.args.paths.now = search rules in
-    let slots_are : c.remove.new.self.items ≡ remove s.slots c.args.at = search rules in
+    let slots_are : c.drop_slot.new.slots.items ≡ remove s.slots c.args.at = search rules in
     subst (λ (slots : List (Option KeptStore)). AreStanding b (record { master = c.put.new.self; slots = slots })) (sym slots_are)
     (left-put s c.args.at e c.args.paths.now c.put.new.self (c.in_ok-put.ensures.put ∙ next_is) there filled here (c.in_ok-put.ensures.stands t) (c.put.ensures.crash t))
 

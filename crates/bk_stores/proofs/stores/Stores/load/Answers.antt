@@ -4,23 +4,24 @@ use Rattle.bk_device.specs.Calls.{ChangesNothing}
 use Rattle.bk_device.specs.Compose.{effect_then, effect_weaken}
 use Rattle.bk_device.specs.Effects.{Effect}
 use Rattle.bk_device.specs.Laws.{nothing_then}
+use Rattle.bk_device.specs.declared.trouble.Trouble.TheVariants as trouble
 use Rattle.bk_master.specs.declared.record.Record.{Record}
 use Rattle.bk_stores.specs.Loading.{shut}
 use Rattle.bk_stores.specs.Quiet.{AreQuiet}
 use Rattle.bk_stores.specs.QuietLaws.{quiet-moved, quiet-record}
 use Rattle.bk_stores.specs.Stores.{AreStores, IsOurs, LeavesStores, sealed_at, Fixed}
-use Rattle.bk_stores.specs.declared.error.StoresError.TheVariants.{Broken}
+use Rattle.bk_stores.specs.declared.error.LoadError.TheVariants as load
 use Rattle.bk_stores.proofs.Loaded.{shut-leaves}
 use Rattle.bk_stores.proofs.stores.Stores.load.Goals as goal
 
 pub returns-in_err-master-clause-broken : goal.returns-in_err-master-clause-broken
 returns-in_err-master-clause-broken g c t broken settled fixed tolds is =
-    let its : IsErrOf c.open_master.result Broken = search rules in
+    let its : IsErrOf c.open_master.result load.Broken = search rules in
     c.open_master.ensures.broken t its fixed tolds is
 
 pub returns-in_err-settle_in-clause-broken : goal.returns-in_err-settle_in-clause-broken
 returns-in_err-settle_in-clause-broken g c t broken settled fixed tolds is =
-    let its : IsErrOf c.settle_in.result Broken = search rules in
+    let its : IsErrOf c.settle_in.result trouble.Broken = search rules in
     let here : AreStores (g.D.Device.disk c.open_master.new.dev) (shut c.in_ok-master.master) tolds = c.in_ok-master.ensures.stands t settled fixed tolds is in
     c.settle_in.ensures.broken its tolds here.standing.entries
 

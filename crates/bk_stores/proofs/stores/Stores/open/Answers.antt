@@ -1,4 +1,4 @@
-use Rattle.std.proofs.Common.{rules, ◌≡◌, ◌<◌, ◌∙◌, ℕ, Some, None, length, set, true, ap, sym, subst, arith}
+use Rattle.std.proofs.Common.{rules, ◌≡◌, ◌<◌, ◌∙◌, ℕ, List, Option, Some, None, length, set, true, ap, sym, subst, arith}
 use Rattle.std.specs.Prelude.{slice_get, IsErrOf}
 use Rattle.bk_reopening.specs.declared.error.OpenError.TheVariants.{Foreign}
 use Rattle.bk_master.specs.declared.record.Entry.{Entry}
@@ -96,7 +96,8 @@ returns-clause-standing g c t =
     let unused : AreUnused s.slots store.paged.facts.files = c.in_ok-store.ensures.unused in
     let after = opened-standing s c.args.at e store (c.requires.standing t) c.requires.shut there stands unused (c.in_ok-opened.ensures.touches t) in
     let same : c.in_ok-store.store ≡ store = c.in_ok-store.ensures.same in
-    subst (λ (own : KeptStore). AreStanding b (record { master = c.self.inside.master; slots = set c.self.inside.slots.items c.args.at (Some own) })) (sym same)
+    let slots_are : c.put_slot.new.slots.items ≡ set c.self.inside.slots.items c.args.at (Some store) = c.put_slot.ensures ∙ ap (λ (own : KeptStore). set c.self.inside.slots.items c.args.at (Some own)) same in
+    subst (λ (slots : List (Option KeptStore)). AreStanding b (record { master = c.self.inside.master; slots = slots })) (sym slots_are)
     (subst (λ (k : Kept). AreStanding b (record k { slots = set k.slots c.args.at (Some store) })) (sym c.self.view_is) after)
 
 pub returns-clause-stands : goal.returns-clause-stands
@@ -117,7 +118,8 @@ returns-clause-stands g c t tolds told is told_is =
     let number : store.paged.log.db ≡ e.store = c.in_ok-opened.ensures.ends.0 ∙ sym it.2 in
     let after = opened-stands c.args.self.now tolds c.args.at e told store is (there, told_is) stored effect number c.in_ok-opened.ensures.fit (c.in_ok-opened.ensures.stands t told closed) in
     let same : c.in_ok-store.store ≡ store = c.in_ok-store.ensures.same in
-    subst (λ (own : KeptStore). AreStores b (record { master = c.self.inside.master; slots = set c.self.inside.slots.items c.args.at (Some own) }) (set tolds c.args.at (settled told))) (sym same)
+    let slots_are : c.put_slot.new.slots.items ≡ set c.self.inside.slots.items c.args.at (Some store) = c.put_slot.ensures ∙ ap (λ (own : KeptStore). set c.self.inside.slots.items c.args.at (Some own)) same in
+    subst (λ (slots : List (Option KeptStore)). AreStores b (record { master = c.self.inside.master; slots = slots }) (set tolds c.args.at (settled told))) (sym slots_are)
     (subst (λ (k : Kept). AreStores b (record k { slots = set k.slots c.args.at (Some store) }) (set tolds c.args.at (settled told))) (sym c.self.view_is) after)
 
 pub returns-clause-crash : goal.returns-clause-crash
@@ -137,11 +139,12 @@ returns-clause-crash g c t tolds told is told_is =
 
 pub returns-clause-opens : goal.returns-clause-opens
 returns-clause-opens g c =
+    let x : Kept = record { master = c.self.inside.master; slots = c.self.inside.slots.items } in
     let store = c.in_ok-store.store in
     let opened = c.in_ok-opened.ensures in
     let sealed : IsSealed c.in_ok-opened.opened = record { fit = opened.fit; all = opened.ends.1 } in (
       store,
-      ap (λ (k : Kept). record k { slots = set k.slots c.args.at (Some store) }) c.self.view_is,
+      ap (λ (slots : List (Option KeptStore)). record x { slots = slots }) c.put_slot.ensures ∙ ap (λ (k : Kept). record k { slots = set k.slots c.args.at (Some store) }) c.self.view_is,
       subst IsSealed (sym c.in_ok-store.ensures.same) sealed,
     )
 

@@ -1,7 +1,8 @@
-use Rattle.std.proofs.Common.{rules, ◌≡◌, ◌<◌, ◌∙◌, None, Some, inl, set, sym, subst}
+use Rattle.std.proofs.Common.{rules, ◌≡◌, ◌<◌, ◌∙◌, List, Option, None, Some, inl, set, sym, subst}
 use Rattle.std.specs.Prelude.{slice_get}
 use Rattle.bk_device.specs.Compose.{effect_weaken}
 use Rattle.bk_master.specs.declared.record.Entry.{Entry}
+use Rattle.bk_store.specs.Store.{Kept as KeptStore}
 use Rattle.bk_stores.specs.Making.{MaySwap, Swaps}
 use Rattle.bk_stores.specs.Records.{swapped}
 use Rattle.bk_stores.specs.StandLaws.{rest-crash}
@@ -38,7 +39,9 @@ returns-clause-stands g c t tolds told new is may =
     let e : Entry = c.store_at-number.ensures.0 in
     let there : slice_get s.master.record.databases c.args.at ≡ Some e = search rules in
     let next_is : c.in_ok-next.next ≡ swapped s.master.record c.args.at c.args.entry e.store c.args.paths.now = search rules in
-    swapped-stands s tolds c.args.at told new e c.args.entry c.args.slot c.args.paths.now c.put.new.self c.requires.small (c.in_ok-put.ensures.put ∙ next_is) there here its (c.in_ok-put.ensures.stands t) (c.put.ensures.crash t)
+    let slots_are : c.put_slot.new.slots.items ≡ set s.slots c.args.at c.args.slot = search rules in
+    subst (λ (slots : List (Option KeptStore)). AreStores b (record { master = c.put.new.self; slots = slots }) (set tolds c.args.at new)) (sym slots_are)
+    (swapped-stands s tolds c.args.at told new e c.args.entry c.args.slot c.args.paths.now c.put.new.self c.requires.small (c.in_ok-put.ensures.put ∙ next_is) there here its (c.in_ok-put.ensures.stands t) (c.put.ensures.crash t))
 
 pub returns-clause-crash : goal.returns-clause-crash
 returns-clause-crash g c t tolds told new is may =
@@ -63,7 +66,9 @@ returns-clause-standing g c t =
     let e : Entry = c.store_at-number.ensures.0 in
     let there : slice_get s.master.record.databases c.args.at ≡ Some e = search rules in
     let next_is : c.in_ok-next.next ≡ swapped s.master.record c.args.at c.args.entry e.store c.args.paths.now = search rules in
-    swapped-put s c.args.at e c.args.entry c.args.slot c.args.paths.now c.put.new.self (c.in_ok-put.ensures.put ∙ next_is) there below here joins (c.in_ok-put.ensures.stands t) (c.put.ensures.crash t)
+    let slots_are : c.put_slot.new.slots.items ≡ set s.slots c.args.at c.args.slot = search rules in
+    subst (λ (slots : List (Option KeptStore)). AreStanding (g.D.Device.disk c.put.new.dev) (record { master = c.put.new.self; slots = slots })) (sym slots_are)
+    (swapped-put s c.args.at e c.args.entry c.args.slot c.args.paths.now c.put.new.self (c.in_ok-put.ensures.put ∙ next_is) there below here joins (c.in_ok-put.ensures.stands t) (c.put.ensures.crash t))
 
 pub returns-in_err-next-clause-touches : goal.returns-in_err-next-clause-touches
 returns-in_err-next-clause-touches g c t = none-touched (g.D.Device.disk c.args.dev.now)

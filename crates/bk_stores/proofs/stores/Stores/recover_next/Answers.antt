@@ -1,4 +1,5 @@
 use Rattle.std.proofs.Common.{rules, ◌≡◌, ◌∙◌, ℕ, List, Option, inr, sym, subst}
+use Rattle.std.proofs.lemmas.Result.{on_ok_weaker}
 use Rattle.std.specs.Prelude.{IsErrOf}
 use Rattle.bk_device.specs.Compose.{effect_then}
 use Rattle.bk_device.specs.Calls.{contents}
@@ -16,8 +17,9 @@ use Rattle.bk_stores.specs.Records.{SharesNone}
 use Rattle.bk_stores.specs.Standing.{AreUnused}
 use Rattle.bk_stores.specs.Stores.{AreStores, Kept}
 use Rattle.bk_stores.specs.TouchLaws.{database-touched}
+use Rattle.bk_stores.proofs.Answered.{refused, same-has, same-then}
 use Rattle.bk_stores.proofs.Brought.{made-crash, made-standing, made-stands, makes-on}
-use Rattle.bk_stores.specs.declared.error.StoresError.TheVariants.{Broken}
+use Rattle.bk_device.specs.declared.trouble.Trouble.TheVariants.{Broken}
 use Rattle.bk_stores.proofs.stores.Stores.recover_next.Given.{Over}
 use Rattle.bk_stores.proofs.stores.Stores.recover_next.Goals as goal
 
@@ -69,26 +71,8 @@ returns-in_err-recovered-clause-broken g c t broken tolds told r is shares makes
     makes-on (disk c.args.dev.now) (disk c.begin_with.new.dev) s tolds n c.args.medium.now.name c.args.stored.now files c.args.checkpoint c.args.note.now c.args.known.now told number c.requires.elsewhere first makes in
     c.recover.ensures.unfit t free told made (unfit-of g c broken)
 
-pub returns-in_err-store-clause-crash : goal.returns-in_err-store-clause-crash
-returns-in_err-store-clause-crash g c t tolds told is shares makes =
-    let disk = g.D.Device.disk in
-    let s : Kept = c.args.self.now in
-    let then : Kept = c.begin_with.new.self in
-    let n : ℕ = c.in_ok-number.number in
-    let files : List DataFile = c.args.files.items in
-    let given : c.deref.result.now ≡ files = search rules in
-    let named : IsNamed s then files = subst (IsNamed s then) given c.in_ok-number.ensures.named in
-    let number : n ≡ s.master.record.next = search rules in
-    let own : SharesNone s.master.record.databases tolds c.deref.result.now = subst (λ (fs : List DataFile). SharesNone s.master.record.databases tolds fs) (sym given) shares in
-    let first = c.begin_with.ensures.crash t tolds is own in
-    let here : AreStores (disk c.begin_with.new.dev) then tolds = c.in_ok-number.ensures.stands t tolds is own in
-    let free : LogsAreDurable n (disk c.begin_with.new.dev) = subst (λ (m : ℕ). LogsAreDurable m (disk c.begin_with.new.dev)) (sym number) (c.in_ok-number.ensures.free t tolds is) in
-    let made : Makes (contents ((disk c.begin_with.new.dev).files c.args.medium.now.name)) c.args.stored.now files n c.args.checkpoint c.args.note.now c.args.known.now told =
-    makes-on (disk c.args.dev.now) (disk c.begin_with.new.dev) s tolds n c.args.medium.now.name c.args.stored.now files c.args.checkpoint c.args.note.now c.args.known.now told number c.requires.elsewhere first makes in
-    made-crash s then n files tolds named number is.standing.entries shares here first (c.recover.ensures.crash t free told made)
-
-pub returns-in_err-store-clause-broken : goal.returns-in_err-store-clause-broken
-returns-in_err-store-clause-broken g c t broken tolds told r is shares makes last =
+pub returns-clause-broken : goal.returns-clause-broken
+returns-clause-broken g c t broken tolds told r is shares makes last =
     let disk = g.D.Device.disk in
     let s : Kept = c.args.self.now in
     let then : Kept = c.begin_with.new.self in
@@ -105,7 +89,7 @@ returns-in_err-store-clause-broken g c t broken tolds told r is shares makes las
     let recovered : KeptStore = c.in_ok-recovered.recovered in
     let stands : IsStore (disk c.recover.new.dev) recovered (said (settled told) r) = c.in_ok-recovered.ensures.stands t free told r made last in
     let its : recovered.paged.facts.files ≡ files = stands.paged.files ∙ made.suffices.suffices.files in
-    let none : AreUnused then.slots recovered.paged.facts.files → ⊥ = search rules in
+    let none : AreUnused then.slots recovered.paged.facts.files → ⊥ = refused c.checked.result broken c.checked.ensures.broken in
     none (subst (λ (sl : List (Option KeptStore)). AreUnused sl recovered.paged.facts.files) (sym named.slots) (subst (λ (fs : List DataFile). AreUnused s.slots fs) (sym its) (c.requires.unused t)))
 
 pub returns-clause-named : goal.returns-clause-named
@@ -114,32 +98,32 @@ returns-clause-named g c =
     let then : Kept = c.begin_with.new.self in
     let files : List DataFile = c.args.files.items in
     let given : c.deref.result.now ≡ files = search rules in
-    subst (IsNamed s then) given c.in_ok-number.ensures.named
+    on_ok_weaker c.checked.result (λ k. subst (IsNamed s then) given c.in_ok-number.ensures.named) c.checked.ensures.unused
 
 pub returns-clause-number : goal.returns-clause-number
 returns-clause-number g c =
     let s : Kept = c.args.self.now in
     let n : ℕ = c.in_ok-number.number in
     let number : n ≡ s.master.record.next = search rules in
-    subst (λ (x : KeptStore). x.paged.log.db ≡ s.master.record.next) (sym c.in_ok-store.ensures.same) (c.in_ok-recovered.ensures.ends.0 ∙ number)
+    same-has c.checked.result c.in_ok-recovered.recovered (λ (x : KeptStore). x.paged.log.db ≡ s.master.record.next) c.checked.ensures.same (c.in_ok-recovered.ensures.ends.0 ∙ number)
 
 pub returns-clause-sealed : goal.returns-clause-sealed
 returns-clause-sealed g c =
     let recovered : KeptStore = c.in_ok-recovered.recovered in
     let sealed : IsSealed recovered = record { fit = c.in_ok-recovered.ensures.fit; all = c.in_ok-recovered.ensures.ends.1 } in
-    subst IsSealed (sym c.in_ok-store.ensures.same) sealed
+    same-has c.checked.result recovered IsSealed c.checked.ensures.same sealed
 
 pub returns-clause-unused : goal.returns-clause-unused
 returns-clause-unused g c =
     let s : Kept = c.args.self.now in
     let recovered : KeptStore = c.in_ok-recovered.recovered in
-    let unused : AreUnused s.slots recovered.paged.facts.files = subst (λ (sl : List (Option KeptStore)). AreUnused sl recovered.paged.facts.files) c.in_ok-number.ensures.named.slots c.in_ok-store.ensures.unused in
-    subst (λ (x : KeptStore). AreUnused s.slots x.paged.facts.files) (sym c.in_ok-store.ensures.same) unused
+    same-then c.checked.result recovered (λ (x : KeptStore). AreUnused s.slots x.paged.facts.files) c.checked.ensures.same
+    (λ own. subst (λ (sl : List (Option KeptStore)). AreUnused sl recovered.paged.facts.files) c.in_ok-number.ensures.named.slots own) c.checked.ensures.unused
 
 pub returns-clause-opened : goal.returns-clause-opened
 returns-clause-opened g c t =
     let disk = g.D.Device.disk in
-    subst (λ (x : KeptStore). Standing (disk c.recover.new.dev) x.paged) (sym c.in_ok-store.ensures.same) (c.in_ok-recovered.ensures.standing t)
+    same-has c.checked.result c.in_ok-recovered.recovered (λ (x : KeptStore). Standing (disk c.recover.new.dev) x.paged) c.checked.ensures.same (c.in_ok-recovered.ensures.standing t)
 
 pub returns-clause-standing : goal.returns-clause-standing
 returns-clause-standing g c t =
@@ -151,7 +135,9 @@ returns-clause-standing g c t =
     let named : IsNamed s then files = subst (IsNamed s then) given c.in_ok-number.ensures.named in
     let number : n ≡ s.master.record.next = search rules in
     let recovered : KeptStore = c.in_ok-recovered.recovered in
-    made-standing s then n files recovered named number (c.requires.standing t).numbers (c.requires.unused t) c.in_ok-store.ensures.unused (c.in_ok-number.ensures.standing t) (c.in_ok-recovered.ensures.touches t)
+    on_ok_weaker c.checked.result
+    (λ own. made-standing s then n files recovered named number (c.requires.standing t).numbers (c.requires.unused t) own (c.in_ok-number.ensures.standing t) (c.in_ok-recovered.ensures.touches t))
+    c.checked.ensures.unused
 
 pub returns-clause-store : goal.returns-clause-store
 returns-clause-store g c t tolds told r is shares makes last =
@@ -166,7 +152,7 @@ returns-clause-store g c t tolds told r is shares makes last =
     let free : LogsAreDurable n (disk c.begin_with.new.dev) = subst (λ (m : ℕ). LogsAreDurable m (disk c.begin_with.new.dev)) (sym number) (c.in_ok-number.ensures.free t tolds is) in
     let made : Makes (contents ((disk c.begin_with.new.dev).files c.args.medium.now.name)) c.args.stored.now files n c.args.checkpoint c.args.note.now c.args.known.now told =
     makes-on (disk c.args.dev.now) (disk c.begin_with.new.dev) s tolds n c.args.medium.now.name c.args.stored.now files c.args.checkpoint c.args.note.now c.args.known.now told number c.requires.elsewhere first makes in
-    subst (λ (x : KeptStore). IsStore (disk c.recover.new.dev) x (said (settled told) r)) (sym c.in_ok-store.ensures.same) (c.in_ok-recovered.ensures.stands t free told r made last)
+    same-has c.checked.result c.in_ok-recovered.recovered (λ (x : KeptStore). IsStore (disk c.recover.new.dev) x (said (settled told) r)) c.checked.ensures.same (c.in_ok-recovered.ensures.stands t free told r made last)
 
 pub returns-clause-stands : goal.returns-clause-stands
 returns-clause-stands g c t tolds told is shares makes =
@@ -184,7 +170,7 @@ returns-clause-stands g c t tolds told is shares makes =
     let free : LogsAreDurable n (disk c.begin_with.new.dev) = subst (λ (m : ℕ). LogsAreDurable m (disk c.begin_with.new.dev)) (sym number) (c.in_ok-number.ensures.free t tolds is) in
     let made : Makes (contents ((disk c.begin_with.new.dev).files c.args.medium.now.name)) c.args.stored.now files n c.args.checkpoint c.args.note.now c.args.known.now told =
     makes-on (disk c.args.dev.now) (disk c.begin_with.new.dev) s tolds n c.args.medium.now.name c.args.stored.now files c.args.checkpoint c.args.note.now c.args.known.now told number c.requires.elsewhere first makes in
-    made-stands s then n files tolds named number is.standing.entries shares here (c.recover.ensures.crash t free told made)
+    on_ok_weaker c.checked.result (λ k. made-stands s then n files tolds named number is.standing.entries shares here (c.recover.ensures.crash t free told made)) c.checked.ensures.unused
 
 pub returns-clause-crash : goal.returns-clause-crash
 returns-clause-crash g c t tolds told is shares makes =
@@ -209,6 +195,3 @@ returns-clause-touches g c t = effect_then (c.begin_with.ensures.touches t) (dat
 
 pub returns-in_err-recovered-clause-touches : goal.returns-in_err-recovered-clause-touches
 returns-in_err-recovered-clause-touches g c t = effect_then (c.begin_with.ensures.touches t) (database-touched c.in_ok-number.number (c.recover.ensures.mine t))
-
-pub returns-in_err-store-clause-touches : goal.returns-in_err-store-clause-touches
-returns-in_err-store-clause-touches g c t = effect_then (c.begin_with.ensures.touches t) (database-touched c.in_ok-number.number (c.recover.ensures.mine t))

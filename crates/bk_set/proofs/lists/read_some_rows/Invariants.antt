@@ -1,8 +1,0 @@
-use Rattle.std.proofs.Common.{◌≡◌, ◌-◌}
-use Rattle.bk_bytes.specs.Codec.{times_at}
-use Rattle.bk_bytes.specs.LoopLaws.{with_front}
-use Rattle.bk_set.specs.Reading.{row_form}
-use Rattle.bk_set.proofs.lists.read_some_rows.Given as goal
-
-abbrev pub invariant-loop : goal.invariant-loop
-invariant-loop l = with_front l.rows.items (times_at row_form.reading (l.count - l.counter) l.rest) ≡ times_at row_form.reading l.count l.bytes
