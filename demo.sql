@@ -1,4 +1,4 @@
-CREATE DATABASE Sales;
+CREATE DATABASE Sales ON (NAME = Sales, FILENAME = 'Sales', SIZE = 128 KB);
 USE Sales;
 CREATE TABLE orders (k BIGINT PRIMARY KEY, v VARCHAR(112));
 INSERT INTO orders VALUES (12, 'twelve boxes of paper');
