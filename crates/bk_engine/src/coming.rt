@@ -10,9 +10,9 @@ ghost use Rattle.bk_storage.specs.Storage.{HasPath};
 ghost use Rattle.bk_store.specs.Told.{data_file};
 ghost use Rattle.bk_engine.specs.Bringing.{files_on, known_on, points_at, spec_on};
 
-use crate::parking::units_of;
 use bk_device::Trouble;
 use bk_facts::DataFile;
+use bk_hosted::units_of;
 use bk_ids::{Branch, Guid, Name, Sequence};
 use bk_kept::{copy_file, copy_groups, is_simple};
 use bk_known::{AsOf, DatabaseSpec, Known};

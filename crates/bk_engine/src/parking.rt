@@ -1,11 +1,10 @@
 // Sets that take the place of databases.
-ghost use Rattle.std.specs.Prelude.{◌≡◌, None, IfErr, IfOk, OnOk, IsErrOf};
+ghost use Rattle.std.specs.Prelude.{◌≡◌, None, IfErr, OnOk, IsErrOf};
 ghost use Rattle.bk_device.specs.Counts.{HasCause};
 ghost use Rattle.bk_device.specs.Effects.{Effect};
 ghost use Rattle.bk_device.specs.Troubles.{IsPassing};
-ghost use Rattle.bk_hosted.specs.Hosted.{parked_points};
 ghost use Rattle.bk_known.specs.Known.{KeepsKnown};
-ghost use Rattle.bk_machine.specs.Acts.{done, file_units, replaced};
+ghost use Rattle.bk_machine.specs.Acts.{done, replaced};
 ghost use Rattle.bk_machine.specs.MayDo.{MayDo};
 ghost use Rattle.bk_machine.specs.World.{World};
 ghost use Rattle.bk_stores.specs.Standing.{AreStanding};
@@ -16,50 +15,10 @@ ghost use Rattle.bk_engine.specs.Touched.{NoMedium, TouchesOnly};
 use crate::engine::Engine;
 use bk_archive::acts_keep_media;
 use bk_device::{Device, Trouble};
-use bk_hosted::hosted_databases_follow_restores;
-use bk_ids::{Sequence, UnitId};
+use bk_hosted::{hosted_databases_follow_restores, parked_points};
 use bk_known::Known;
 use bk_machine::acts_keep_worlds_sound;
-use bk_points::Points;
-use bk_world::{Header, HeaderFile, State, Status, Unit};
-use std::alloc::{AllocError, Global};
-
-/// Each file of a set, in this state.
-pub(crate) fn units_of(
-    alloc: Global,
-    files: &[HeaderFile],
-    state: State,
-) -> Result<Vec<Unit>, AllocError>
-    ensures { IfOk result (λ units. units.items ≡ file_units state files.now) }
-{
-    let mut units = Vec::new(alloc);
-    for file in files {
-        units.push(Unit {
-            id: UnitId::File(file.spec.number),
-            state,
-        })?;
-    }
-    Ok(units)
-}
-
-// The points of a database whose place a set takes: its files are Bad.
-fn points_of(alloc: Global, header: &Header) -> Result<Points, AllocError>
-    ensures { IfOk result (λ points. points ≡ parked_points header.now) }
-{
-    let units = units_of(alloc, header.files.as_slice(), State::Bad)?;
-    Ok(Points {
-        next_checkpoint: 0,
-        next_kept: 0,
-        archive: header.last,
-        kept: header.last,
-        checkpoint: header.last,
-        chain: false,
-        began: false,
-        base: None,
-        status: Status::Down,
-        units: Sequence::new(units),
-    })
-}
+use bk_world::Header;
 
 impl Engine {
     /// The set with this header, of which this is known, takes the place of the database of its name, or comes behind the others; its files aren't restored yet. A crash leaves the world before it, but for what
@@ -90,7 +49,7 @@ impl Engine {
         acts_keep_worlds_sound();
         hosted_databases_follow_restores();
         self.hosting.at_rest(dev);
-        let points = points_of(self.alloc, header)?;
+        let points = parked_points(self.alloc, header)?;
         match self.hosting.find(known.spec.name.as_str()) {
             Some(at) => self.hosting.park_at(self.alloc, dev, at, known, points),
             None => self.hosting.park(self.alloc, dev, known, points),
