@@ -21,9 +21,9 @@ use bk_stores::{data_paths, paths_of};
 use bk_world::{FileSpec, State as UnitState, Status, Unit};
 use std::alloc::{AllocError, Global};
 
-// What is kept of a database that was just made with these files.
-pub(crate) fn first_state(alloc: Global, files: &[FileSpec]) -> Result<State, AllocError>
-    ensures { IfOk result (λ s. s ≡ record { points = first_points files.now; job = None; transactions = []; known = None }) }
+// The points of a database that was just made with these files.
+pub(crate) fn made_points(alloc: Global, files: &[FileSpec]) -> Result<Points, AllocError>
+    ensures { IfOk result (λ points. points ≡ first_points files.now) }
 {
     let mut units = Vec::new(alloc);
     for file in files {
@@ -32,19 +32,27 @@ pub(crate) fn first_state(alloc: Global, files: &[FileSpec]) -> Result<State, Al
             state: UnitState::Online,
         })?;
     }
+    Ok(Points {
+        next_checkpoint: 0,
+        next_kept: 0,
+        archive: 1,
+        kept: 1,
+        checkpoint: 1,
+        chain: false,
+        began: false,
+        base: None,
+        status: Status::Online,
+        units: Sequence::new(units),
+    })
+}
+
+// What is kept of a database that was just made with these files.
+fn first_state(alloc: Global, files: &[FileSpec]) -> Result<State, AllocError>
+    ensures { IfOk result (λ s. s ≡ record { points = first_points files.now; job = None; transactions = []; known = None }) }
+{
+    let points = made_points(alloc, files)?;
     Ok(State {
-        points: Points {
-            next_checkpoint: 0,
-            next_kept: 0,
-            archive: 1,
-            kept: 1,
-            checkpoint: 1,
-            chain: false,
-            began: false,
-            base: None,
-            status: Status::Online,
-            units: Sequence::new(units),
-        },
+        points,
         job: None,
         transactions: Sequence::new(Vec::new(alloc)),
         known: None,

@@ -14,7 +14,7 @@ ghost use Rattle.bk_hosting.specs.Hosting.{IsNoteOf, Tells};
 ghost use Rattle.bk_hosting.specs.Loading.{says_checkpoint};
 
 use crate::hosting::State;
-use crate::making::first_state;
+use crate::making::made_points;
 use bk_device::{Device, Trouble};
 use bk_ids::{Lsn, Sequence};
 use bk_points::{Points, read_points};
@@ -69,7 +69,7 @@ pub(crate) fn noted_points(
     ensures no_fault { IsErrOf result Trouble.Fault → ⊥ }
 {
     if note.is_empty() {
-        return Ok(first_state(alloc, files)?.points);
+        return Ok(made_points(alloc, files)?);
     }
     match read_points(alloc, note) {
         Ok((points, rest)) if rest.is_empty() => Ok(points),

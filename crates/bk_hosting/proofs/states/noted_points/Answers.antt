@@ -1,13 +1,12 @@
-use Rattle.std.proofs.Common.{rules, ◌≡◌, [], Some, length, ap, ◌∙◌}
+use Rattle.std.proofs.Common.{rules, ◌≡◌, [], Some, length, ◌∙◌}
 use Rattle.bk_points.specs.Points.{points_form}
 use Rattle.bk_hosting.proofs.Noted.{no-bytes, note-empty, note-read}
-use Rattle.bk_hosting.specs.declared.hosting.State.{State}
 use Rattle.bk_hosting.proofs.states.noted_points.Goals as goal
 
 pub returns-then-is_empty-clause-points : goal.returns-then-is_empty-clause-points
 returns-then-is_empty-clause-points c = λ points is.
     let none : length c.args.note.now ≡ 0 = search rules in
-    ap (λ (s : State). s.points) c.in_ok-first_state.ensures ∙ note-empty c.args.note.now c.args.files.now points is (no-bytes c.args.note.now none)
+    c.in_ok-made_points.ensures ∙ note-empty c.args.note.now c.args.files.now points is (no-bytes c.args.note.now none)
 
 pub returns-in-Ok-clause-points : goal.returns-in-Ok-clause-points
 returns-in-Ok-clause-points c = λ points is.
