@@ -22,6 +22,10 @@ pub returns-clause-effect : goal.returns-clause-effect
 returns-clause-effect g c t =
     nothing_then (g.met.D.Device.lawful t c.args.dev.now) (nothing_then (g.met.D.Device.lawful t c.args.dev.now) (c.len.ensures.effect t) (c.load_gate.ensures.effect t)) (c.begins_well.ensures.effect t)
 
+pub returns-then-branch-clause-effect : goal.returns-then-branch-clause-effect
+returns-then-branch-clause-effect g c t =
+    nothing_then (g.met.D.Device.lawful t c.args.dev.now) (nothing_then (g.met.D.Device.lawful t c.args.dev.now) (c.len.ensures.effect t) (c.load_gate.ensures.effect t)) (c.begins_well.ensures.effect t)
+
 pub returns-then-branch-clause-sets : goal.returns-then-branch-clause-sets
 returns-then-branch-clause-sets g c t =
     let a = g.D.Device.disk c.args.dev.now in
