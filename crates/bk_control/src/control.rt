@@ -20,7 +20,6 @@ use std::marker::Model;
 /// A control file of one content, of at most 65,536 bytes.
 ///
 /// Once a call has answered `Failed` the value is failed, and is no longer used.
-#[derive(Drop)]
 pub struct Control {
     name: String,
     // with room for 65,536 bytes
@@ -31,6 +30,20 @@ pub struct Control {
     // whether the file is known to have both slots in their whole length
     is_whole: bool,
     failed: bool,
+}
+
+impl Drop for Control {
+    fn drop(self) {
+        let Control {
+            name: _,
+            content: _,
+            side: _,
+            sequence: _,
+            is_other_open: _,
+            is_whole: _,
+            failed: _,
+        } = self;
+    }
 }
 
 impl Model for Control {

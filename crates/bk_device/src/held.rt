@@ -14,12 +14,22 @@ pub enum Version {
     Bytes(Vec<u8>),
 }
 
-#[derive(Drop)]
 pub struct Held {
     pub name: String,
     pub begin: Option<Vec<u8>>,
     pub durable: Version,
     pub current: Version,
+}
+
+impl Drop for Held {
+    fn drop(self) {
+        let Held {
+            name: _,
+            begin: _,
+            durable: _,
+            current: _,
+        } = self;
+    }
 }
 
 impl Held {

@@ -21,7 +21,6 @@ const END: u64 = 1 << 62;
 /// Files and an output in memory. It keeps each call that was done since it began, so it tells what a crash at each
 /// moment may leave. A call fails where `fail_at` or `stop_at` asked for it, for want of memory, and a write also where
 /// it would end at 2^62 or past it; it then does nothing.
-#[derive(Drop)]
 pub struct MemDevice {
     files: Cache,
     // The calls since it began.
@@ -35,6 +34,23 @@ pub struct MemDevice {
     writes: u64,
     disk_faults: u64,
     tell_faults: u64,
+}
+
+impl Drop for MemDevice {
+    fn drop(self) {
+        let MemDevice {
+            files: _,
+            done: _,
+            told: _,
+            told_before: _,
+            failing: _,
+            calls: _,
+            stop: _,
+            writes: _,
+            disk_faults: _,
+            tell_faults: _,
+        } = self;
+    }
 }
 
 impl Model for MemDevice {

@@ -9,13 +9,24 @@ use std::alloc::{AllocError, Global};
 use std::marker::Model;
 
 /// A source that gives these bytes and tells them. A read fails exactly where `fail_at` was asked for.
-#[derive(Drop)]
 pub struct MemSource {
     bytes: Vec<u8>,
     at: usize,
     failing: Vec<u64>,
     calls: u64,
     faults: u64,
+}
+
+impl Drop for MemSource {
+    fn drop(self) {
+        let MemSource {
+            bytes: _,
+            at: _,
+            failing: _,
+            calls: _,
+            faults: _,
+        } = self;
+    }
 }
 
 impl Model for MemSource {

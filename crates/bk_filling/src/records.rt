@@ -17,13 +17,23 @@ use std::alloc::Global;
 use std::marker::Model;
 
 /// The log of a database that comes to hold records before its control record is put. Until then there is no log.
-#[derive(Drop)]
 pub struct Records {
     db: u32,
     kept: Lsn,
     // the last segment and its number; they count from 1
     gate: Gate,
     back: u64,
+}
+
+impl Drop for Records {
+    fn drop(self) {
+        let Records {
+            db: _,
+            kept: _,
+            gate: _,
+            back: _,
+        } = self;
+    }
 }
 
 impl Model for Records {

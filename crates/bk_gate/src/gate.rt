@@ -19,7 +19,6 @@ use std::marker::Model;
 /// A gate file.
 ///
 /// Once a call has answered `Failed` the value is failed, and is no longer used.
-#[derive(Drop)]
 pub struct Gate {
     name: String,
     spans: Vec<(u64, u64)>,
@@ -29,6 +28,20 @@ pub struct Gate {
     // how many more spans there is room for, at least
     spare: usize,
     failed: bool,
+}
+
+impl Drop for Gate {
+    fn drop(self) {
+        let Gate {
+            name: _,
+            spans: _,
+            end: _,
+            is_closed: _,
+            begun: _,
+            spare: _,
+            failed: _,
+        } = self;
+    }
 }
 
 impl Model for Gate {

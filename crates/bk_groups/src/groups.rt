@@ -20,11 +20,20 @@ use std::marker::Model;
 
 /// The data files of a database by filegroup, the filegroup of each table, and the place of each row: its cell, which no
 /// other row has.
-#[derive(Drop)]
 pub struct Groups {
     files: Vec<FileSpace>,
     tables: BTreeMap<u32, u8>,
     places: BTreeMap<(u32, u64), Place>,
+}
+
+impl Drop for Groups {
+    fn drop(self) {
+        let Groups {
+            files: _,
+            tables: _,
+            places: _,
+        } = self;
+    }
 }
 
 impl Model for Groups {

@@ -10,7 +10,6 @@ use bk_world::Open;
 use std::marker::Model;
 
 /// What an instance keeps of a database beside its store.
-#[derive(Drop)]
 pub struct State {
     /// The points of its log, its base, its status and its units of restore.
     pub points: Points,
@@ -20,6 +19,17 @@ pub struct State {
     pub transactions: Sequence<Open>,
     /// What is known of it as of its end, while it is being restored: its store isn't open then.
     pub known: Option<Known>,
+}
+
+impl Drop for State {
+    fn drop(self) {
+        let State {
+            points: _,
+            job: _,
+            transactions: _,
+            known: _,
+        } = self;
+    }
 }
 
 /// The databases of an instance on its device, in their order: each an open store, and what is kept beside it; of one that is being restored only that.

@@ -8,9 +8,15 @@ use std::marker::Model;
 pub const DESCRIPTION_BYTES: usize = 65_535;
 
 /// The description of a mark: a text in UTF-8 of 1 to 65,535 bytes. Contracts see its bytes.
-#[derive(Debug, Drop)]
+#[derive(Debug)]
 pub struct Description {
     text: String,
+}
+
+impl Drop for Description {
+    fn drop(self) {
+        let Description { text: _ } = self;
+    }
 }
 
 impl Model for Description {

@@ -25,9 +25,15 @@ pub enum NameError {
 
 /// The name of a database, a filegroup, a file, a table or a mark: 1 to 64 bytes, in the spelling that it
 /// was first given. Contracts see its bytes.
-#[derive(Debug, Drop)]
+#[derive(Debug)]
 pub struct Name {
     text: String,
+}
+
+impl Drop for Name {
+    fn drop(self) {
+        let Name { text: _ } = self;
+    }
 }
 
 impl Model for Name {

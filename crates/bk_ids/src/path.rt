@@ -21,9 +21,15 @@ pub struct Branch {
 
 /// A recovery path: the branches that lead to a state of a database, the oldest first. Contracts see the
 /// list of them.
-#[derive(Debug, Drop)]
+#[derive(Debug)]
 pub struct Path {
     branches: Vec<Branch>,
+}
+
+impl Drop for Path {
+    fn drop(self) {
+        let Path { branches: _ } = self;
+    }
 }
 
 impl Model for Path {

@@ -39,18 +39,37 @@ pub enum RecoveryModel {
 }
 
 /// The mark of a transaction: its name, and the text after it where there is one.
-#[derive(Debug, Drop)]
+#[derive(Debug)]
 pub struct Mark {
     pub name: Name,
     pub description: Option<Description>,
 }
 
+impl Drop for Mark {
+    fn drop(self) {
+        let Mark {
+            name: _,
+            description: _,
+        } = self;
+    }
+}
+
 /// A log record: its number, the number of the first record of its transaction or 0, and what it tells.
-#[derive(Debug, Drop)]
+#[derive(Debug)]
 pub struct Rec {
     pub lsn: Lsn,
     pub begin: Lsn,
     pub body: Body,
+}
+
+impl Drop for Rec {
+    fn drop(self) {
+        let Rec {
+            lsn: _,
+            begin: _,
+            body: _,
+        } = self;
+    }
 }
 
 /// What a log record tells. Times are milliseconds since 1970-01-01 00:00:00 UTC.

@@ -8,9 +8,15 @@ use std::marker::Model;
 pub const VALUE_BYTES: usize = 112;
 
 /// The value of a row: a text in UTF-8 of at most 112 bytes. Contracts see its bytes.
-#[derive(Debug, Drop)]
+#[derive(Debug)]
 pub struct Value {
     text: String,
+}
+
+impl Drop for Value {
+    fn drop(self) {
+        let Value { text: _ } = self;
+    }
 }
 
 impl Model for Value {

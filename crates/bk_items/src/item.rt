@@ -22,10 +22,19 @@ pub enum Marking {
 }
 
 /// The name of a transaction, and how it is marked.
-#[derive(Debug, Drop)]
+#[derive(Debug)]
 pub struct NamedTransaction {
     pub name: Text,
     pub marking: Marking,
+}
+
+impl Drop for NamedTransaction {
+    fn drop(self) {
+        let NamedTransaction {
+            name: _,
+            marking: _,
+        } = self;
+    }
 }
 
 /// What the size of a file is counted in.
@@ -45,18 +54,34 @@ pub struct Size {
 }
 
 /// A file of a new database.
-#[derive(Debug, Drop)]
+#[derive(Debug)]
 pub struct NewFile {
     pub name: Text,
     pub path: Text,
     pub size: Option<Size>,
 }
 
+impl Drop for NewFile {
+    fn drop(self) {
+        let NewFile {
+            name: _,
+            path: _,
+            size: _,
+        } = self;
+    }
+}
+
 /// A filegroup of a new database, with its files.
-#[derive(Debug, Drop)]
+#[derive(Debug)]
 pub struct NewGroup {
     pub name: Text,
     pub files: Sequence<NewFile>,
+}
+
+impl Drop for NewGroup {
+    fn drop(self) {
+        let NewGroup { name: _, files: _ } = self;
+    }
 }
 
 /// A file or a filegroup, by its name.

@@ -39,7 +39,7 @@ pub struct IdleOptions {
 }
 
 /// The options of a BACKUP. What is not there is None or false.
-#[derive(Debug, Drop)]
+#[derive(Debug)]
 pub struct BackupOptions {
     /// INIT, or NOINIT
     pub init: Option<bool>,
@@ -61,12 +61,37 @@ pub struct BackupOptions {
     pub idle: IdleOptions,
 }
 
+impl Drop for BackupOptions {
+    fn drop(self) {
+        let BackupOptions {
+            init: _,
+            format: _,
+            skip: _,
+            checksum: _,
+            name: _,
+            expire: _,
+            retain: _,
+            copy_only: _,
+            differential: _,
+            no_recovery: _,
+            no_truncate: _,
+            idle: _,
+        } = self;
+    }
+}
+
 /// A mark at which a restore stops: its text, and the log sequence number that it says where it is `lsn:` and a number up
 /// to 2^62.
-#[derive(Debug, Drop)]
+#[derive(Debug)]
 pub struct StopMark {
     pub text: Text,
     pub lsn: Option<u64>,
+}
+
+impl Drop for StopMark {
+    fn drop(self) {
+        let StopMark { text: _, lsn: _ } = self;
+    }
 }
 
 /// Where a restore stops. Times are in milliseconds since 1970-01-01 00:00:00 UTC.
@@ -90,14 +115,20 @@ pub enum Ending {
 }
 
 /// `MOVE name TO path`
-#[derive(Debug, Drop)]
+#[derive(Debug)]
 pub struct FileMove {
     pub name: Text,
     pub path: Text,
 }
 
+impl Drop for FileMove {
+    fn drop(self) {
+        let FileMove { name: _, path: _ } = self;
+    }
+}
+
 /// The options of a RESTORE. What is not there is None, false or empty.
-#[derive(Debug, Drop)]
+#[derive(Debug)]
 pub struct RestoreOptions {
     /// `FILE = n`
     pub file: Option<u64>,
@@ -109,4 +140,19 @@ pub struct RestoreOptions {
     /// CHECKSUM, or NO_CHECKSUM
     pub checksum: Option<bool>,
     pub idle: IdleOptions,
+}
+
+impl Drop for RestoreOptions {
+    fn drop(self) {
+        let RestoreOptions {
+            file: _,
+            ending: _,
+            stop: _,
+            replace: _,
+            partial: _,
+            moves: _,
+            checksum: _,
+            idle: _,
+        } = self;
+    }
 }

@@ -6,7 +6,6 @@ use bk_shown::Shown;
 use bk_world::{Base, FileSpec, Open, Status, Unit};
 
 /// A database, with what its log shows.
-#[derive(Drop)]
 pub struct Database {
     pub name: Name,
     pub family: Guid,
@@ -39,8 +38,32 @@ pub struct Database {
     pub shown: Shown,
 }
 
+impl Drop for Database {
+    fn drop(self) {
+        let Database {
+            name: _,
+            family: _,
+            groups: _,
+            files: _,
+            log_name: _,
+            log_path: _,
+            path: _,
+            archive: _,
+            kept: _,
+            checkpoint: _,
+            chain: _,
+            began: _,
+            base: _,
+            status: _,
+            units: _,
+            job: _,
+            transactions: _,
+            shown: _,
+        } = self;
+    }
+}
+
 /// A session of which there is something to say.
-#[derive(Drop)]
 pub struct Session {
     /// Its number, from 1.
     pub number: u8,
@@ -50,8 +73,17 @@ pub struct Session {
     pub starts: bool,
 }
 
+impl Drop for Session {
+    fn drop(self) {
+        let Session {
+            number: _,
+            current: _,
+            starts: _,
+        } = self;
+    }
+}
+
 /// What an instance keeps in memory.
-#[derive(Drop)]
 pub struct Kept {
     /// The instance's number, from 1.
     pub number: u64,
@@ -63,4 +95,16 @@ pub struct Kept {
     pub sessions: Vec<Session>,
     /// Its databases, in the order in which they were made.
     pub databases: Vec<Database>,
+}
+
+impl Drop for Kept {
+    fn drop(self) {
+        let Kept {
+            number: _,
+            counter: _,
+            session: _,
+            sessions: _,
+            databases: _,
+        } = self;
+    }
 }

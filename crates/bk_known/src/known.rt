@@ -2,7 +2,7 @@ use bk_ids::{Guid, Lsn, Name, Path, RecoveryModel, Sequence};
 use bk_world::{Storage, TableSpec};
 
 /// A database's name, its family, the path that it is on, and where it lies.
-#[derive(Debug, Drop)]
+#[derive(Debug)]
 pub struct DatabaseSpec {
     pub name: Name,
     /// What its backups have in common.
@@ -12,8 +12,19 @@ pub struct DatabaseSpec {
     pub storage: Storage,
 }
 
+impl Drop for DatabaseSpec {
+    fn drop(self) {
+        let DatabaseSpec {
+            name: _,
+            family: _,
+            path: _,
+            storage: _,
+        } = self;
+    }
+}
+
 /// What the log records below a number say.
-#[derive(Debug, Drop)]
+#[derive(Debug)]
 pub struct AsOf {
     /// That number.
     pub from: Lsn,
@@ -24,9 +35,26 @@ pub struct AsOf {
     pub time: u64,
 }
 
+impl Drop for AsOf {
+    fn drop(self) {
+        let AsOf {
+            from: _,
+            tables: _,
+            model: _,
+            time: _,
+        } = self;
+    }
+}
+
 /// What a database's note holds before that of the layer above.
-#[derive(Debug, Drop)]
+#[derive(Debug)]
 pub struct Known {
     pub spec: DatabaseSpec,
     pub as_of: AsOf,
+}
+
+impl Drop for Known {
+    fn drop(self) {
+        let Known { spec: _, as_of: _ } = self;
+    }
 }

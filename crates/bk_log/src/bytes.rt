@@ -12,10 +12,15 @@ use std::marker::Model;
 
 /// The bytes of the records that a log holds, from its kept point on. Those of older ones, which the first segment may still have,
 /// stand before them and aren't seen.
-#[derive(Drop)]
 pub struct LogBytes {
     all: Vec<u8>,
     start: usize,
+}
+
+impl Drop for LogBytes {
+    fn drop(self) {
+        let LogBytes { all: _, start: _ } = self;
+    }
 }
 
 impl Model for LogBytes {

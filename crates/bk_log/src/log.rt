@@ -33,7 +33,6 @@ use std::marker::Model;
 /// note of at most 32,768 bytes for the layer above.
 ///
 /// Once a call that took the value by `&mut` has answered `Fault` or `Failed` it is failed, and is no longer used.
-#[derive(Drop)]
 pub struct Log {
     db: u32,
     control: Control,
@@ -54,6 +53,26 @@ pub struct Log {
     // the last segment's spare is at least this
     spare_flushes: usize,
     failed: bool,
+}
+
+impl Drop for Log {
+    fn drop(self) {
+        let Log {
+            db: _,
+            control: _,
+            gate: _,
+            head: _,
+            segments: _,
+            note: _,
+            spelled: _,
+            stored: _,
+            end: _,
+            waiting: _,
+            spare_bytes: _,
+            spare_flushes: _,
+            failed: _,
+        } = self;
+    }
 }
 
 impl Model for Log {

@@ -6,7 +6,7 @@ use std::alloc::{AllocError, Global};
 
 /// A backup that runs beside the sessions, until a crash or the end of the run drops it. Times are milliseconds since
 /// 1970-01-01 00:00:00 UTC.
-#[derive(Debug, Drop)]
+#[derive(Debug)]
 pub struct Job {
     /// The set that it makes.
     pub set: Guid,
@@ -29,6 +29,25 @@ pub struct Job {
     pub checkpoint: Lsn,
     /// The data extents that aren't copied yet, in their order.
     pub left: Sequence<ExtentId>,
+}
+
+impl Drop for Job {
+    fn drop(self) {
+        let Job {
+            set: _,
+            kind: _,
+            files: _,
+            copy_only: _,
+            checksums: _,
+            name: _,
+            expiry: _,
+            start: _,
+            medium: _,
+            first: _,
+            checkpoint: _,
+            left: _,
+        } = self;
+    }
 }
 
 // Numbers of their own.

@@ -21,10 +21,18 @@ use std::marker::Model;
 /// An instance's own files.
 ///
 /// Once a call that took the value by `&mut` has answered `Fault` it is failed, and is no longer used.
-#[derive(Drop)]
 pub struct Master {
     control: Control,
     record: Record,
+}
+
+impl Drop for Master {
+    fn drop(self) {
+        let Master {
+            control: _,
+            record: _,
+        } = self;
+    }
 }
 
 impl Model for Master {

@@ -10,7 +10,7 @@ pub struct Entry {
 }
 
 /// A store whose files are being made or removed.
-#[derive(Debug, Drop)]
+#[derive(Debug)]
 pub struct Unfinished {
     /// Its number.
     pub store: u32,
@@ -18,8 +18,14 @@ pub struct Unfinished {
     pub paths: Sequence<Text>,
 }
 
+impl Drop for Unfinished {
+    fn drop(self) {
+        let Unfinished { store: _, paths: _ } = self;
+    }
+}
+
 /// What an instance keeps of itself beside its databases.
-#[derive(Debug, Drop)]
+#[derive(Debug)]
 pub struct Own {
     /// The instance's number.
     pub number: u64,
@@ -33,8 +39,20 @@ pub struct Own {
     pub copying: Sequence<Guid>,
 }
 
+impl Drop for Own {
+    fn drop(self) {
+        let Own {
+            number: _,
+            counter: _,
+            making: _,
+            staging: _,
+            copying: _,
+        } = self;
+    }
+}
+
 /// What an instance keeps of itself.
-#[derive(Debug, Drop)]
+#[derive(Debug)]
 pub struct Record {
     /// What isn't of its databases.
     pub own: Own,
@@ -44,4 +62,15 @@ pub struct Record {
     pub databases: Sequence<Entry>,
     /// The stores that are being made or removed: at most two, each of at most 16 data files.
     pub unfinished: Sequence<Unfinished>,
+}
+
+impl Drop for Record {
+    fn drop(self) {
+        let Record {
+            own: _,
+            next: _,
+            databases: _,
+            unfinished: _,
+        } = self;
+    }
 }

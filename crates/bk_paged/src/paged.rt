@@ -28,7 +28,6 @@ use std::marker::Model;
 /// in data files and in a pool; and a note for the layer above.
 ///
 /// Once a call that took the value by `&mut` has answered an error it is no longer used.
-#[derive(Drop)]
 pub struct Paged {
     pub(crate) log: Log,
     pub(crate) side: Side,
@@ -38,6 +37,19 @@ pub struct Paged {
     pub(crate) note: Vec<u8>,
     // each page in the data files is as of some number from this one on
     pub(crate) since: Lsn,
+}
+
+impl Drop for Paged {
+    fn drop(self) {
+        let Paged {
+            log: _,
+            side: _,
+            pool: _,
+            facts: _,
+            note: _,
+            since: _,
+        } = self;
+    }
 }
 
 impl Model for Paged {

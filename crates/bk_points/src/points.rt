@@ -2,7 +2,7 @@ use bk_ids::{Lsn, Sequence};
 use bk_world::{Base, Status, Unit};
 
 /// The points of a database's log, and its units of restore.
-#[derive(Debug, Drop)]
+#[derive(Debug)]
 pub struct Points {
     /// The number of the checkpoint that is said next, or 0: once its record is in the log, it is the latest one.
     pub next_checkpoint: Lsn,
@@ -24,6 +24,23 @@ pub struct Points {
     pub status: Status,
     /// Its units of restore, by file, then page.
     pub units: Sequence<Unit>,
+}
+
+impl Drop for Points {
+    fn drop(self) {
+        let Points {
+            next_checkpoint: _,
+            next_kept: _,
+            archive: _,
+            kept: _,
+            checkpoint: _,
+            chain: _,
+            began: _,
+            base: _,
+            status: _,
+            units: _,
+        } = self;
+    }
 }
 
 // The points of a log, without what the database is based on and how it can be used.

@@ -16,7 +16,6 @@ use std::marker::Model;
 
 /// A fixed number of frames, and which page of which file lies in each, if one does. A page lies in one frame at most.
 /// A frame is dirty where its page was changed and isn't written yet.
-#[derive(Drop)]
 pub struct Pool {
     frames: Frames,
     pages: Vec<Option<(u16, u32)>>,
@@ -27,6 +26,20 @@ pub struct Pool {
     // the frame of each page, but where there was once no memory for one
     index: HashMap<(u16, u32), usize>,
     is_whole: bool,
+}
+
+impl Drop for Pool {
+    fn drop(self) {
+        let Pool {
+            frames: _,
+            pages: _,
+            dirty: _,
+            used: _,
+            hand: _,
+            index: _,
+            is_whole: _,
+        } = self;
+    }
 }
 
 impl Model for Pool {

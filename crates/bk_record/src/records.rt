@@ -14,9 +14,15 @@ use std::alloc::{AllocError, Global};
 use std::marker::Model;
 
 /// Whole log records, spelled one after the other. Contracts see their bytes.
-#[derive(Debug, Drop)]
+#[derive(Debug)]
 pub struct Records {
     bytes: Vec<u8>,
+}
+
+impl Drop for Records {
+    fn drop(self) {
+        let Records { bytes: _ } = self;
+    }
 }
 
 impl Model for Records {

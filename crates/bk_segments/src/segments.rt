@@ -7,12 +7,17 @@ use crate::names::segment_name;
 use std::alloc::{AllocError, Global};
 
 /// A segment that counts.
-#[derive(Drop)]
 pub struct Segment {
     /// The name of its file.
     pub name: String,
     /// The number of its first record.
     pub first: u64,
+}
+
+impl Drop for Segment {
+    fn drop(self) {
+        let Segment { name: _, first: _ } = self;
+    }
 }
 
 /// The segment of this number, whose first record has the number `first`.

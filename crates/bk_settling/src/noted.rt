@@ -6,12 +6,21 @@ ghost use Rattle.bk_settling.specs.Noted.{names_in, IsNoted};
 use std::alloc::{AllocError, Global};
 
 // Names, the last one that was noted at the end.
-#[derive(Drop)]
 pub struct Noted {
     pub alloc: Global,
     pub names: Vec<String>,
     // A name found no memory.
     pub lost: bool,
+}
+
+impl Drop for Noted {
+    fn drop(self) {
+        let Noted {
+            alloc: _,
+            names: _,
+            lost: _,
+        } = self;
+    }
 }
 
 impl Noted {

@@ -11,9 +11,14 @@ use std::marker::Model;
 
 /// Committed rows, and entries for rows that may be committed next without memory. Contracts see the list of the entries,
 /// each its table and key with its committed value, if it has one, by rising table and key.
-#[derive(Drop)]
 pub struct Rows {
     values: BTreeMap<(u32, u64), Option<Value>>,
+}
+
+impl Drop for Rows {
+    fn drop(self) {
+        let Rows { values: _ } = self;
+    }
 }
 
 impl Model for Rows {

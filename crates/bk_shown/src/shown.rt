@@ -11,7 +11,6 @@ use std::alloc::{AllocError, Global};
 
 /// A write that is pending: of a transaction that no record ends, and not undone. Where the row isn't there, its value is
 /// none.
-#[derive(Drop)]
 pub struct Written {
     pub lsn: Lsn,
     /// The number of its transaction's first record.
@@ -23,10 +22,23 @@ pub struct Written {
     pub value: Option<Value>,
 }
 
+impl Drop for Written {
+    fn drop(self) {
+        let Written {
+            lsn: _,
+            begin: _,
+            place: _,
+            table: _,
+            key: _,
+            before: _,
+            value: _,
+        } = self;
+    }
+}
+
 /// What the log of a database shows: its tables, the committed rows, the place of each row, the writes that are
 /// pending, the recovery model, the last time (milliseconds since 1970-01-01 00:00:00 UTC), and the number that the next
 /// record gets.
-#[derive(Drop)]
 pub struct Shown {
     pub(crate) alloc: Global,
     pub(crate) tables: Vec<TableSpec>,
@@ -36,6 +48,21 @@ pub struct Shown {
     pub(crate) model: RecoveryModel,
     pub(crate) time: u64,
     pub(crate) end: Lsn,
+}
+
+impl Drop for Shown {
+    fn drop(self) {
+        let Shown {
+            alloc: _,
+            tables: _,
+            rows: _,
+            written: _,
+            groups: _,
+            model: _,
+            time: _,
+            end: _,
+        } = self;
+    }
 }
 
 impl Shown {

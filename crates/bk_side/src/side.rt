@@ -25,13 +25,22 @@ use std::marker::Model;
 /// The data files of one database, numbered 1, 2, .. in their order, and its side file.
 ///
 /// Once a call that took the value by `&mut` has answered `Failed` it is failed, and is no longer used.
-#[derive(Drop)]
 pub struct Side {
     // a blob is begun
     gate: Gate,
     // the data files by number, from 1 on
     names: Vec<Text>,
     failed: bool,
+}
+
+impl Drop for Side {
+    fn drop(self) {
+        let Side {
+            gate: _,
+            names: _,
+            failed: _,
+        } = self;
+    }
 }
 
 impl Model for Side {

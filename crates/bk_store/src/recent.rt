@@ -15,11 +15,20 @@ use bk_world::TableSpec;
 use std::alloc::Global;
 
 /// Tables, recovery model and last time (milliseconds since 1970-01-01 00:00:00 UTC), as a log's records say.
-#[derive(Drop)]
 pub struct Recent {
     pub tables: Vec<TableSpec>,
     pub model: RecoveryModel,
     pub time: u64,
+}
+
+impl Drop for Recent {
+    fn drop(self) {
+        let Recent {
+            tables: _,
+            model: _,
+            time: _,
+        } = self;
+    }
 }
 
 // The name that a text spells. `Foreign` is answered where it has not 1 to 64 bytes.

@@ -19,13 +19,23 @@ use std::marker::Model;
 /// One database over its files: its log and pages, what they show, what its note says of it, and a note for the layer above.
 ///
 /// Once a call that took the value by `&mut` has answered an error it is no longer used.
-#[derive(Drop)]
 pub struct Store {
     pub(crate) paged: Paged,
     pub(crate) shown: Shown,
     pub(crate) known: Known,
     // of the layer above
     pub(crate) note: Vec<u8>,
+}
+
+impl Drop for Store {
+    fn drop(self) {
+        let Store {
+            paged: _,
+            shown: _,
+            known: _,
+            note: _,
+        } = self;
+    }
 }
 
 impl Model for Store {

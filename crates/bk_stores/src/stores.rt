@@ -10,10 +10,18 @@ use std::marker::Model;
 /// The databases of an instance on its device, in their order: each a store of its own, open or not, under the instance's record.
 ///
 /// Once a call that took the value by `&mut` has answered an error it is no longer used.
-#[derive(Drop)]
 pub struct Stores {
     pub(crate) master: Master,
     pub(crate) slots: Vec<Option<Store>>,
+}
+
+impl Drop for Stores {
+    fn drop(self) {
+        let Stores {
+            master: _,
+            slots: _,
+        } = self;
+    }
 }
 
 impl Model for Stores {

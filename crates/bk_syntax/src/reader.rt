@@ -41,11 +41,21 @@ fn read_on(
 
 /// A reader of a script, which is passed at each call and is always the same: the tokens that were read ahead, and the
 /// place behind them.
-#[derive(Debug, Drop)]
+#[derive(Debug)]
 pub struct Reader {
     tokens: Vec<Token>,
     from: usize,
     place: Place,
+}
+
+impl Drop for Reader {
+    fn drop(self) {
+        let Reader {
+            tokens: _,
+            from: _,
+            place: _,
+        } = self;
+    }
 }
 
 impl Reader {

@@ -23,13 +23,22 @@ use bk_world::{Header, TableSpec};
 use std::alloc::{AllocError, Global};
 
 /// All memory that sealing a set takes.
-#[derive(Drop)]
 pub struct Around {
     /// The header, the tables and the number of extents.
     front: Vec<u8>,
     /// The length of the log.
     size: Vec<u8>,
     buffer: Vec<u8>,
+}
+
+impl Drop for Around {
+    fn drop(self) {
+        let Around {
+            front: _,
+            size: _,
+            buffer: _,
+        } = self;
+    }
 }
 
 // The length of a log in 8 bytes.

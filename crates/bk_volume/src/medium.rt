@@ -28,10 +28,15 @@ use std::marker::Model;
 /// A medium.
 ///
 /// Once a call has answered `Fault` at a `&mut` value it is failed, and is no longer used.
-#[derive(Drop)]
 pub struct Medium {
     gate: Gate,
     failed: bool,
+}
+
+impl Drop for Medium {
+    fn drop(self) {
+        let Medium { gate: _, failed: _ } = self;
+    }
 }
 
 impl Model for Medium {

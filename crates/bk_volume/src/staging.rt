@@ -23,12 +23,22 @@ pub const EXTENT_BYTES: u64 = 65_542;
 /// A set that is being written: its extents and its log lie in a file of their own until it is sealed.
 ///
 /// Once a call has answered `Failed` the value is failed, and is no longer used. A crash leaves anything in the file.
-#[derive(Drop)]
 pub struct Staged {
     name: String,
     extents: u32,
     log: u64,
     failed: bool,
+}
+
+impl Drop for Staged {
+    fn drop(self) {
+        let Staged {
+            name: _,
+            extents: _,
+            log: _,
+            failed: _,
+        } = self;
+    }
 }
 
 impl Model for Staged {

@@ -1,7 +1,7 @@
 use bk_ids::{Guid, Lsn, Name, Sequence, Text, UnitId};
 
 /// A data file of a database.
-#[derive(Debug, Drop)]
+#[derive(Debug)]
 pub struct FileSpec {
     /// Its number, from 1 in the order of CREATE DATABASE.
     pub number: u16,
@@ -15,8 +15,20 @@ pub struct FileSpec {
     pub path: Text,
 }
 
+impl Drop for FileSpec {
+    fn drop(self) {
+        let FileSpec {
+            number: _,
+            group: _,
+            extents: _,
+            name: _,
+            path: _,
+        } = self;
+    }
+}
+
 /// A table of a database.
-#[derive(Debug, Drop)]
+#[derive(Debug)]
 pub struct TableSpec {
     /// Its number, which no other table of the database has.
     pub number: u32,
@@ -26,8 +38,18 @@ pub struct TableSpec {
     pub group: u8,
 }
 
+impl Drop for TableSpec {
+    fn drop(self) {
+        let TableSpec {
+            number: _,
+            name: _,
+            group: _,
+        } = self;
+    }
+}
+
 /// The filegroups, data files and log file of a database.
-#[derive(Debug, Drop)]
+#[derive(Debug)]
 pub struct Storage {
     /// PRIMARY first.
     pub groups: Sequence<Name>,
@@ -36,6 +58,17 @@ pub struct Storage {
     pub log_name: Name,
     /// The path of its log, 1 to 100 bytes.
     pub log_path: Text,
+}
+
+impl Drop for Storage {
+    fn drop(self) {
+        let Storage {
+            groups: _,
+            files: _,
+            log_name: _,
+            log_path: _,
+        } = self;
+    }
 }
 
 /// A database as CREATE DATABASE makes it.

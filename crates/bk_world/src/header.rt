@@ -15,15 +15,21 @@ pub enum SetKind {
 }
 
 /// A data file as a set's header names it.
-#[derive(Debug, Drop)]
+#[derive(Debug)]
 pub struct HeaderFile {
     pub spec: FileSpec,
     /// Whether its extents are in the set.
     pub in_set: bool,
 }
 
+impl Drop for HeaderFile {
+    fn drop(self) {
+        let HeaderFile { spec: _, in_set: _ } = self;
+    }
+}
+
 /// The header of a backup set. Times are milliseconds since 1970-01-01 00:00:00 UTC.
-#[derive(Debug, Drop)]
+#[derive(Debug)]
 pub struct Header {
     /// The version of its layout, from 1.
     pub version: u16,
@@ -63,4 +69,35 @@ pub struct Header {
     pub files: Sequence<HeaderFile>,
     pub log_name: Name,
     pub log_path: Text,
+}
+
+impl Drop for Header {
+    fn drop(self) {
+        let Header {
+            version: _,
+            kind: _,
+            model: _,
+            copy_only: _,
+            bulk: _,
+            begins_chain: _,
+            checksums: _,
+            set: _,
+            family: _,
+            first: _,
+            checkpoint: _,
+            last: _,
+            database_backup: _,
+            base: _,
+            start: _,
+            finish: _,
+            expiry: _,
+            database: _,
+            name: _,
+            path: _,
+            groups: _,
+            files: _,
+            log_name: _,
+            log_path: _,
+        } = self;
+    }
 }

@@ -1,7 +1,7 @@
 use bk_ids::{Place, Value};
 
 /// A committed row of a database, with the cell in which it lies.
-#[derive(Debug, Drop)]
+#[derive(Debug)]
 pub struct PlacedRow {
     /// The number of its table.
     pub table: u32,
@@ -10,4 +10,15 @@ pub struct PlacedRow {
     pub value: Value,
     /// Its cell.
     pub place: Place,
+}
+
+impl Drop for PlacedRow {
+    fn drop(self) {
+        let PlacedRow {
+            table: _,
+            key: _,
+            value: _,
+            place: _,
+        } = self;
+    }
 }

@@ -9,7 +9,6 @@ use cases::Subject;
 use std::alloc::{AllocError, Global};
 
 /// What the commands of a case are put to.
-#[derive(Drop)]
 pub struct Crashes {
     alloc: Global,
     console: Console,
@@ -17,6 +16,18 @@ pub struct Crashes {
     device: MemDevice,
     // The scripts that were run over it, a line `:run` behind each.
     before: String,
+}
+
+impl Drop for Crashes {
+    fn drop(self) {
+        let Crashes {
+            alloc: _,
+            console: _,
+            look: _,
+            device: _,
+            before: _,
+        } = self;
+    }
 }
 
 // The numbers behind `stop`.

@@ -6,13 +6,24 @@ use std::alloc::{AllocError, Global};
 use trials::{cut_inside, write_inside};
 
 /// What a crash leaves behind some of the deeds: one that keeps what wasn't synced, and one that loses it.
-#[derive(Drop)]
 pub struct Moments {
     alloc: Global,
     kept: MemDevice,
     lost: MemDevice,
     told: Vec<u8>,
     is_lost_new: bool,
+}
+
+impl Drop for Moments {
+    fn drop(self) {
+        let Moments {
+            alloc: _,
+            kept: _,
+            lost: _,
+            told: _,
+            is_lost_new: _,
+        } = self;
+    }
 }
 
 // A file's whole content, where it is there.

@@ -47,10 +47,15 @@ fn show_rows(rows: &BTreeMap<u64, String>, out: &mut String) -> Result<(), Alloc
 }
 
 // A set: where a restore of it ends, in decimal, and what it holds.
-#[derive(Drop)]
 struct Set {
     last: String,
     held: Held,
+}
+
+impl Drop for Set {
+    fn drop(self) {
+        let Set { last: _, held: _ } = self;
+    }
 }
 
 // A row that a transaction wrote, or that is gone by it.
@@ -76,15 +81,23 @@ impl Write {
 }
 
 // A session: the name of its database, and what its transaction wrote there.
-#[derive(Drop)]
 struct Session {
     current: String,
     is_open: bool,
     writes: Vec<Write>,
 }
 
+impl Drop for Session {
+    fn drop(self) {
+        let Session {
+            current: _,
+            is_open: _,
+            writes: _,
+        } = self;
+    }
+}
+
 /// The databases, the sets of the media by their paths, the media of the backups that run beside the sessions by the names of their databases, and the sessions.
-#[derive(Drop)]
 pub struct Plain {
     alloc: Global,
     databases: BTreeMap<String, Held>,
@@ -92,6 +105,19 @@ pub struct Plain {
     jobs: BTreeMap<String, String>,
     sessions: Vec<Session>,
     session: usize,
+}
+
+impl Drop for Plain {
+    fn drop(self) {
+        let Plain {
+            alloc: _,
+            databases: _,
+            media: _,
+            jobs: _,
+            sessions: _,
+            session: _,
+        } = self;
+    }
 }
 
 // What stands in a text between two others; nothing where these aren't there.

@@ -35,12 +35,21 @@ impl Deed {
 }
 
 // The deeds in their order.
-#[derive(Drop)]
 struct Deeds {
     alloc: Global,
     list: Vec<Deed>,
     // One found no memory.
     is_short: bool,
+}
+
+impl Drop for Deeds {
+    fn drop(self) {
+        let Deeds {
+            alloc: _,
+            list: _,
+            is_short: _,
+        } = self;
+    }
 }
 
 impl Deeds {

@@ -6,10 +6,18 @@ use crate::tried::Tried;
 use std::alloc::AllocError;
 
 /// What a look may show where so many items of the script were answered.
-#[derive(Drop)]
 pub struct States {
     answered: usize,
     texts: Vec<String>,
+}
+
+impl Drop for States {
+    fn drop(self) {
+        let States {
+            answered: _,
+            texts: _,
+        } = self;
+    }
 }
 
 // What the look shows behind the script's front with so many items that are answered.

@@ -21,7 +21,6 @@ pub struct Stops {
 }
 
 // The crashes of a run.
-#[derive(Drop)]
 struct Crashes {
     alloc: Global,
     moments: Moments,
@@ -30,6 +29,19 @@ struct Crashes {
     lost: String,
     writes: u64,
     looks: u64,
+}
+
+impl Drop for Crashes {
+    fn drop(self) {
+        let Crashes {
+            alloc: _,
+            moments: _,
+            states: _,
+            lost: _,
+            writes: _,
+            looks: _,
+        } = self;
+    }
 }
 
 // Whether a number is one of each so many.

@@ -21,10 +21,18 @@ use std::process::ExitCode;
 use trials::Untold;
 
 // What the commands of a case are put to.
-#[derive(Drop)]
 struct Files {
     alloc: Global,
     device: Untold,
+}
+
+impl Drop for Files {
+    fn drop(self) {
+        let Files {
+            alloc: _,
+            device: _,
+        } = self;
+    }
 }
 
 impl Files {

@@ -18,7 +18,6 @@ use std::alloc::{AllocError, Global};
 use std::thread::Threads;
 
 /// Some frames, a pool, filegroups, a log, and what is shown of one.
-#[derive(Drop)]
 pub(crate) struct Floor {
     alloc: Global,
     frames: Frames,
@@ -26,6 +25,19 @@ pub(crate) struct Floor {
     groups: Groups,
     log: Vec<u8>,
     shown: Shown,
+}
+
+impl Drop for Floor {
+    fn drop(self) {
+        let Floor {
+            alloc: _,
+            frames: _,
+            pool: _,
+            groups: _,
+            log: _,
+            shown: _,
+        } = self;
+    }
 }
 
 impl Floor {

@@ -8,10 +8,18 @@ use std::alloc::{AllocError, Global};
 use std::mem;
 
 /// A device in memory.
-#[derive(Drop)]
 pub struct Files {
     pub alloc: Global,
     pub device: MemDevice,
+}
+
+impl Drop for Files {
+    fn drop(self) {
+        let Files {
+            alloc: _,
+            device: _,
+        } = self;
+    }
 }
 
 // The number of the instance, and the low number of the next GUID that isn't reserved.

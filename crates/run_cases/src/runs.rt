@@ -11,7 +11,6 @@ use cases::Subject;
 use std::alloc::{AllocError, Global};
 
 /// What the commands of a case are put to.
-#[derive(Drop)]
 pub struct Runs {
     console: Console,
     alloc: Global,
@@ -19,6 +18,18 @@ pub struct Runs {
     // The number of the next run's source call that fails.
     fault: Option<u64>,
     trial: Trial,
+}
+
+impl Drop for Runs {
+    fn drop(self) {
+        let Runs {
+            console: _,
+            alloc: _,
+            files: _,
+            fault: _,
+            trial: _,
+        } = self;
+    }
 }
 
 impl Runs {

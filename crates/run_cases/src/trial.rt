@@ -5,7 +5,6 @@ use crate::trouble::Trouble;
 use std::alloc::{AllocError, Global};
 
 // A text that a look may show, by the number of lines that were told before.
-#[derive(Drop)]
 struct Shown {
     least: u64,
     most: u64,
@@ -13,12 +12,32 @@ struct Shown {
     is_seen: bool,
 }
 
+impl Drop for Shown {
+    fn drop(self) {
+        let Shown {
+            least: _,
+            most: _,
+            text: _,
+            is_seen: _,
+        } = self;
+    }
+}
+
 /// The script that looks, and what it may show.
-#[derive(Drop)]
 pub struct Trial {
     alloc: Global,
     look: String,
     shown: Vec<Shown>,
+}
+
+impl Drop for Trial {
+    fn drop(self) {
+        let Trial {
+            alloc: _,
+            look: _,
+            shown: _,
+        } = self;
+    }
 }
 
 impl Trial {

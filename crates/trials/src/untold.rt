@@ -9,13 +9,23 @@ use std::alloc::{AllocError, Global};
 use std::mem;
 
 /// A device in memory of which nothing is claimed, so that a case may open whatever files there are.
-#[derive(Drop)]
 pub struct Untold {
     alloc: Global,
     device: Box<MemDevice>,
     // how often a call on a file, or on the output, failed
     disk_faults: u64,
     tell_faults: u64,
+}
+
+impl Drop for Untold {
+    fn drop(self) {
+        let Untold {
+            alloc: _,
+            device: _,
+            disk_faults: _,
+            tell_faults: _,
+        } = self;
+    }
 }
 
 // Puts another byte at a place of a file. Tells whether there is such a place.

@@ -6,11 +6,20 @@ use std::alloc::{AllocError, Global};
 use trials::Untold;
 
 /// The bytes that a case has given, and a device with media.
-#[derive(Drop)]
 pub struct Values {
     alloc: Global,
     bytes: Vec<u8>,
     device: Untold,
+}
+
+impl Drop for Values {
+    fn drop(self) {
+        let Values {
+            alloc: _,
+            bytes: _,
+            device: _,
+        } = self;
+    }
 }
 
 impl Values {
